@@ -91,8 +91,8 @@ const RUNS: [&str; 14] = [
     "a listing | list-keyset --in-format binary | keyset | 0 | | listing |",
     "a tag of another length | verify --keyset k --keyset-format binary --tag-hex 00 | 61 | 1 | tinkey: verify failed\ntinkey: no ENABLED key of the keyset makes this tag of this input | |",
     "no such command | no-command | | 2 | tinkey: usage: word 0\ntinkey: no such command: see tinkey help | |",
-    "no protobuf | list-keyset --in-format binary | ff | 3 | tinkey: bad protobuf at byte 0 | |",
-    "no such file | tag --keyset n --keyset-format binary | 61 | 4 | tinkey: input file missing | |",
+    "no protobuf | list-keyset --in-format binary | ff | 3 | tinkey: bad protobuf at byte 0\ntinkey: standard input is damaged, or isn't a keyset | |",
+    "no such file | tag --keyset n --keyset-format binary | 61 | 4 | tinkey: input file missing\ntinkey: the file that --keyset gives is not there | |",
     "a read that fails | list-keyset --in-format binary | fails | 5 | tinkey: read fault | |",
     "a byte too many | list-keyset --in-format binary | long | 6 | tinkey: keyset too long\ntinkey: a keyset has at most 1048576 bytes, and an encrypted one 4194304 | |",
     "memory refused | tag --keyset k --keyset-format binary | no memory | 7 | tinkey: out of memory | |",
@@ -101,7 +101,7 @@ const RUNS: [&str; 14] = [
     "nor is a tag | tag --keyset k --keyset-format binary | fails | 4 | tinkey: output is a terminal\ntinkey: this isn't for a screen: give --out FILE, or redirect the output | | both",
     "a listing is, and a terminal is read | list-keyset --in-format binary | keyset | 0 | tinkey: reading from the terminal; Ctrl-D ends the input | listing | both",
     "nothing is written | verify --keyset k --keyset-format binary --tag-hex 00 | 61 | 1 | tinkey: reading from the terminal; Ctrl-D ends the input\ntinkey: verify failed\ntinkey: no ENABLED key of the keyset makes this tag of this input | | both",
-    "a file is read | list-keyset --in n | fails | 4 | tinkey: input file missing | | both",
+    "a file is read | list-keyset --in n | fails | 4 | tinkey: input file missing\ntinkey: the file that --in gives is not there | | both",
 ];
 
 /// The input of a row.

@@ -21,7 +21,7 @@ use Rattle.random_draws.specs.Sessions.{IvsApart, IvsAreDrawn, IvsStandInReplies
 use Rattle.tinkey_session.proofs.Options.{map_some}
 use Rattle.tinkey_session.proofs.ResealLemmas.{reseal_seals}
 use Rattle.tinkey_session.proofs.TurnLemmas.{handle_cases}
-use Rattle.tinkey_session.specs.Lines.{Line, Reseal, Seal}
+use Rattle.tinkey_session.specs.Lines.{Line, Seal}
 use Rattle.tinkey_session.specs.Serving.{Served, cannot_serve, sealed_reply, serve}
 use Rattle.tinkey_session.specs.declared.reply.LineRefusal.{LineRefusal}
 use Rattle.tinkey_session.specs.declared.reply.LineRefusal.TheVariants.{Refused}

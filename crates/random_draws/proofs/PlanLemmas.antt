@@ -23,6 +23,7 @@ use Rattle.tinkey_plans.specs.Steps.{makes_keyset, puts}
 use Rattle.tinkey_plans.specs.Stretch.{Opened}
 use Rattle.tinkey_plans.specs.Streaming as streaming
 use Rattle.tinkey_plans.specs.Using.{hex_line, puts_output, shows}
+use Rattle.tinkey_plans.specs.declared.origin.Origin.TheVariants as origins
 use Rattle.tinkey_plans.specs.declared.status.Status.TheVariants as status
 use Rattle.tinkey_selftest.specs.Trial as trial
 use Rattle.tinkey_selftest.specs.declared.counts.Counts.{Counts}
@@ -55,7 +56,7 @@ closed : IsClosed IsDrawing
 closed = record { ended = λ s stated. tt; allocated = λ next all. all }
 
 open_drawing : IsOpen IsDrawing
-open_drawing = record { closed = closed; loaded = λ limit name next all. all; read = λ limit next all. all }
+open_drawing = record { closed = closed; loaded = λ from limit name next all. all; read = λ limit next all. all }
 
 made_drawing : (give : Draw Keys) (used : Step) → IsStep keysets give used → (next : Keys → Plan) → AreAll IsDrawing next → IsDrawing (makes_keyset give next)
 made_drawing give used is next all = ((used, is), λ given. made_each IsDrawing closed given next all)
@@ -128,10 +129,10 @@ tells_drawing sealed.Stream ad keys = stream_fit_drawing (streams.stream_unfit k
 
 commands_are_drawing : (table : Table) (asked : Asked) → IsDrawing (command_plan table asked)
 commands_are_drawing table (create_keyset lock name out) = row_each IsDrawing closed (row_named name) name _ (λ row. lock_each IsDrawing open_drawing table lock _ (λ master. made_drawing (first row) (creation row) refl _ (out_drawing table master out)))
-commands_are_drawing table (edit_keyset lock edit in' out) = edit_each IsDrawing closed edit _ (λ edit. lock_each IsDrawing open_drawing table lock _ (λ master. under_each IsDrawing open_drawing table master in' _ (λ keys. made_drawing (step keys edit) (edition keys edit) refl _ (out_drawing table master out))))
-commands_are_drawing table (list_keyset lock in') = locked_each IsDrawing open_drawing table lock in' _ (λ keys. tt)
+commands_are_drawing table (edit_keyset lock edit in' out) = edit_each IsDrawing closed edit _ (λ edit. lock_each IsDrawing open_drawing table lock _ (λ master. under_each IsDrawing open_drawing origins.In table master in' _ (λ keys. made_drawing (step keys edit) (edition keys edit) refl _ (out_drawing table master out))))
+commands_are_drawing table (list_keyset lock in') = locked_each IsDrawing open_drawing origins.In table lock in' _ (λ keys. tt)
 commands_are_drawing table (key_of lock name form kind ad) = loaded_each IsDrawing open_drawing table lock name form _ (tells_drawing kind ad)
-commands_are_drawing table (convert_keyset lock new in' out) = lock_each IsDrawing open_drawing table lock _ (λ taken. new_lock_each IsDrawing open_drawing table new taken _ (λ put. under_each IsDrawing open_drawing table taken in' _ (out_drawing table put out)))
+commands_are_drawing table (convert_keyset lock new in' out) = lock_each IsDrawing open_drawing table lock _ (λ taken. new_lock_each IsDrawing open_drawing table new taken _ (λ put. under_each IsDrawing open_drawing origins.In table taken in' _ (out_drawing table put out)))
 commands_are_drawing table (list_key_templates primitive) = tt
 commands_are_drawing table (use_keyset lock name form work out) = loaded_each IsDrawing open_drawing table lock name form _ (λ keys. fit_each IsDrawing closed (unfit keys (primitive_for work) table) _ (λ input. work_each IsDrawing closed table keys work input (λ plain ad next all. ((sealing table keys plain ad, refl), all)) (puts_output out) (shown_drawing out.hex out.file)))
 commands_are_drawing table (use_envelope lock name form template work out) = dek_each IsDrawing closed template _ (λ row. loaded_each IsDrawing open_drawing table lock name form _ (λ keys. fit_each IsDrawing closed (unfit keys Aead table) _ (scheme_each IsDrawing closed (scheme_at table Aead (url_made row)) _ (λ scheme input. envelope_each IsDrawing closed table keys scheme row work input (λ ad next all. ((enveloping table keys scheme row input ad, refl), all)) (λ plain ad next all. ((sealing table keys plain ad, refl), all)) (puts out) (put_drawing out)))))
@@ -140,7 +141,7 @@ commands_are_drawing table (open_stream lock name form ad out) = streams_drawing
 commands_are_drawing table (reseal_stream lock name form ad out) = streams_drawing table lock name form _ (λ k. restream_drawing k ad out)
 commands_are_drawing table (open_range lock name form ad range out) = streams_drawing table lock name form _ (λ k opened. stretch_each IsDrawing closed opened _ (put_drawing out))
 commands_are_drawing table (self_test seed lines) = counts_drawing (trial.self_test table seed lines) lines
-commands_are_drawing table (session lock name form out) = lock_each IsDrawing open_drawing table lock _ (λ master. under_each IsDrawing open_drawing table master (record { file = Some name; form = form }) _ (session_drawing table master out))
+commands_are_drawing table (session lock name form out) = lock_each IsDrawing open_drawing table lock _ (λ master. under_each IsDrawing open_drawing origins.Keyset table master (record { file = Some name; form = form }) _ (session_drawing table master out))
 commands_are_drawing table (help topic) = tt
 commands_are_drawing table version = tt
 

@@ -14,14 +14,18 @@ use Rattle.tinkey_session.specs.Serving.{edit_named, or_refused}
 use Rattle.tinkey_session.specs.declared.reply.Refusal.{Refusal as Why}
 use Rattle.wrapped_prims.specs.Answers.{open_answer, dopen_answer, verify_answer, derive_answer}
 use Rattle.wrapped_prims.specs.Fitness.{Unfit, unfit}
+use Rattle.tinkey_plans.specs.Origins.{begins_of}
+use Rattle.tinkey_plans.specs.declared.origin.Begins.{Begins}
+use Rattle.tinkey_plans.specs.declared.origin.Origin.{Origin}
+use Rattle.tinkey_plans.specs.declared.origin.Origin.TheVariants as origins
 use Rattle.tinkey_plans.specs.declared.status.Status.TheVariants as status
 use Rattle.tinkey_words.specs.declared.words.rows.Format.{Format}
 use Rattle.tinkey_words.specs.declared.words.rows.Format.TheVariants as formats
 use Rattle.tinkey_plans.specs.Plan.{Plan, ends}
-use Rattle.tinkey_plans.specs.Steps.{has_no_key, refuses, with_keyset, with_json, keyset_in, with_row, finds_edit, with_made, keyset_limit, loads_bytes, reads_bytes, takes_bytes, writes_keyset, written_in}
+use Rattle.tinkey_plans.specs.Steps.{has_no_key, refuses, with_keyset, with_json, keyset_in, with_row, finds_edit, with_made, keyset_limit, loads_bytes, origin_of, reads_bytes, takes_bytes, writes_keyset, written_in}
 use Rattle.tinkey_plans.specs.Handles.{unless_unfit}
 use Rattle.tinkey_plans.specs.Using.{seals, with_opened, with_verified, with_derived, works}
-use Rattle.tinkey_plans.specs.Locks.{keyset_under, limit_under, loads_locked, opens_lock, opens_master, opens_new_lock, takes_locked, takes_under, writes_under}
+use Rattle.tinkey_plans.specs.Locks.{keyset_under, limit_under, loads_locked, opens_lock, opens_master, opens_new_lock, put_origin, takes_locked, takes_under, writes_under}
 use Rattle.tinkey_plans.specs.declared.sealer.Sealer.{Sealer}
 use Rattle.tinkey_plans.specs.declared.sealer.Unopened.{Unopened}
 use Rattle.tinkey_plans.specs.declared.sealer.Unopened.TheVariants as unopened
@@ -61,20 +65,20 @@ ended_each : (P : Plan → Type 0) → IsClosed P → (b : Bool) (s t : Status) 
 ended_each P c true s t a other = c.ended s a
 ended_each P c false s t a other = c.ended t other
 
-pub with_keyset_each : (P : Plan → Type 0) → IsClosed P → (locked : Bool → Bool) (r : Result Keys Refusal) (next : Keys → Plan) → AreAll P next → P (with_keyset locked r next)
-with_keyset_each P c locked (Err (Wire at)) next all = ended_each P c (locked false) (status.ProtoLocked at) (status.BadProto at) tt tt
-with_keyset_each P c locked (Err (Fault fault)) next all = ended_each P c (locked true) (status.KeysetLocked fault) (status.Keyset fault) tt tt
-with_keyset_each P c locked (Ok keys) next all = all keys
+pub with_keyset_each : (P : Plan → Type 0) → IsClosed P → (from : Origin) (begins : Begins) (locked : Bool → Bool) (r : Result Keys Refusal) (next : Keys → Plan) → AreAll P next → P (with_keyset from begins locked r next)
+with_keyset_each P c from begins locked (Err (Wire at)) next all = ended_each P c (locked false) (status.ProtoLocked at) (status.BadProto at from begins) tt tt
+with_keyset_each P c from begins locked (Err (Fault fault)) next all = ended_each P c (locked true) (status.KeysetLocked fault) (status.Keyset fault) tt tt
+with_keyset_each P c from begins locked (Ok keys) next all = all keys
 
-pub with_json_each : (P : Plan → Type 0) → IsClosed P → (locked : Bool) (r : Result Keys Json.Refusal) (next : Keys → Plan) → AreAll P next → P (with_json locked r next)
-with_json_each P c locked (Err Json.NotJson) next all = c.ended _ _
-with_json_each P c locked (Err (Json.Shape path)) next all = c.ended _ _
-with_json_each P c locked (Err (Json.Fault fault)) next all = ended_each P c (locked && has_no_key fault) (status.KeysetLocked fault) (status.Keyset fault) tt tt
-with_json_each P c locked (Ok keys) next all = all keys
+pub with_json_each : (P : Plan → Type 0) → IsClosed P → (from : Origin) (begins : Begins) (locked : Bool) (r : Result Keys Json.Refusal) (next : Keys → Plan) → AreAll P next → P (with_json from begins locked r next)
+with_json_each P c from begins locked (Err Json.NotJson) next all = c.ended _ _
+with_json_each P c from begins locked (Err (Json.Shape path)) next all = c.ended _ _
+with_json_each P c from begins locked (Err (Json.Fault fault)) next all = ended_each P c (locked && has_no_key fault) (status.KeysetLocked fault) (status.Keyset fault) tt tt
+with_json_each P c from begins locked (Ok keys) next all = all keys
 
-pub keyset_each : (P : Plan → Type 0) → IsClosed P → (form : Format) (bytes : List ℕ) (next : Keys → Plan) → AreAll P next → P (keyset_in form bytes next)
-keyset_each P c formats.Json bytes next all = c.allocated _ (with_json_each P c (is_wrapped_json bytes) (reads_json bytes) next all)
-keyset_each P c formats.Binary bytes next all = c.allocated _ (with_keyset_each P c (is_wrapped_binary bytes) (reads_binary bytes) next all)
+pub keyset_each : (P : Plan → Type 0) → IsClosed P → (from : Origin) (form : Format) (bytes : List ℕ) (next : Keys → Plan) → AreAll P next → P (keyset_in from form bytes next)
+keyset_each P c from formats.Json bytes next all = c.allocated _ (with_json_each P c from (begins_of bytes) (is_wrapped_json bytes) (reads_json bytes) next all)
+keyset_each P c from formats.Binary bytes next all = c.allocated _ (with_keyset_each P c from (begins_of bytes) (is_wrapped_binary bytes) (reads_binary bytes) next all)
 
 pub within_each : (P : Plan → Type 0) → IsClosed P → (b : Bool) (next : Plan) → P next → P (if b then next else ends status.KeysetTooLong tt)
 within_each P c true next is = is
@@ -113,49 +117,49 @@ verified_each P c false next all = c.ended _ _
 pub wrapped_each : (P : Plan → Type 0) → IsClosed P → (keys master : Keys) (table : Table) (form : Format) → IsClosedAt P sealings (wraps keys master table form) → (next : List ℕ → Plan) → AreAll P next → P (makes_wrapped keys master table form next)
 wrapped_each P c keys master table form drawn next all = c.allocated _ (drawn _ (λ made. c.allocated _ (made_each P c made _ (λ text. within_each P c (nat_le (length text) wrapped_limit) (next text) (all text)))))
 
-pub unwrapped_each : (P : Plan → Type 0) → IsClosed P → (clear : Bool) (sealer : Sealer) (r : Result Keys unwrapped.Refusal) (next : Keys → Plan) → AreAll P next → P (with_unwrapped clear sealer r next)
-unwrapped_each P c clear sealer (Ok keys) next all = all keys
-unwrapped_each P c clear sealer (Err (unwrapped.OuterWire at)) next all = c.ended _ _
-unwrapped_each P c clear sealer (Err unwrapped.NotJson) next all = c.ended _ _
-unwrapped_each P c clear sealer (Err unwrapped.Member) next all = c.ended _ _
-unwrapped_each P c clear sealer (Err unwrapped.NotOpened) next all = ended_each P c clear status.KeysetInClear (status.OpenFailed unopened.Keyset sealer) tt tt
-unwrapped_each P c clear sealer (Err (unwrapped.InnerWire at)) next all = c.ended _ _
-unwrapped_each P c clear sealer (Err (unwrapped.Fault fault)) next all = c.ended _ _
+pub unwrapped_each : (P : Plan → Type 0) → IsClosed P → (from : Origin) (begins : Begins) (clear : Bool) (sealer : Sealer) (r : Result Keys unwrapped.Refusal) (next : Keys → Plan) → AreAll P next → P (with_unwrapped from begins clear sealer r next)
+unwrapped_each P c from begins clear sealer (Ok keys) next all = all keys
+unwrapped_each P c from begins clear sealer (Err (unwrapped.OuterWire at)) next all = c.ended _ _
+unwrapped_each P c from begins clear sealer (Err unwrapped.NotJson) next all = c.ended _ _
+unwrapped_each P c from begins clear sealer (Err unwrapped.Member) next all = c.ended _ _
+unwrapped_each P c from begins clear sealer (Err unwrapped.NotOpened) next all = ended_each P c clear status.KeysetInClear (status.OpenFailed unopened.Keyset sealer) tt tt
+unwrapped_each P c from begins clear sealer (Err (unwrapped.InnerWire at)) next all = c.ended _ _
+unwrapped_each P c from begins clear sealer (Err (unwrapped.Fault fault)) next all = c.ended _ _
 
 -- such a plan is so, too, that loads the bytes of a keyset, or reads them
 pub record IsOpen (P : Plan → Type 0) : Type 0 where
   pub closed : IsClosed P
-  pub loaded : (limit : ℕ) (name : List ℕ) (next : List ℕ → Plan) → AreAll P next → P (loads_bytes limit name next)
+  pub loaded : (from : Origin) (limit : ℕ) (name : List ℕ) (next : List ℕ → Plan) → AreAll P next → P (loads_bytes from limit name next)
   pub read : (limit : ℕ) (next : List ℕ → Plan) → AreAll P next → P (reads_bytes limit next)
 
-bytes_each : (P : Plan → Type 0) → IsOpen P → (limit : ℕ) (file : Option (List ℕ)) (next : List ℕ → Plan) → AreAll P next → P (takes_bytes limit file next)
-bytes_each P o limit (Some name) next all = o.loaded limit name next all
-bytes_each P o limit None next all = o.read limit next all
+bytes_each : (P : Plan → Type 0) → IsOpen P → (from : Origin) (limit : ℕ) (file : Option (List ℕ)) (next : List ℕ → Plan) → AreAll P next → P (takes_bytes from limit file next)
+bytes_each P o from limit (Some name) next all = o.loaded from limit name next all
+bytes_each P o from limit None next all = o.read limit next all
 
-keyset_under_each : (P : Plan → Type 0) → IsOpen P → (table : Table) (master : Option Keys) (form : Format) (bytes : List ℕ) (next : Keys → Plan) → AreAll P next → P (keyset_under table master form bytes next)
-keyset_under_each P o table None form bytes next all = keyset_each P o.closed form bytes next all
-keyset_under_each P o table (Some master) form bytes next all = o.closed.allocated _ (unwrapped_each P o.closed (is_keyset form bytes) (keyset_sealer form master bytes) (unwrap_of master table bytes (is_json form)) next all)
+keyset_under_each : (P : Plan → Type 0) → IsOpen P → (from : Origin) (table : Table) (master : Option Keys) (form : Format) (bytes : List ℕ) (next : Keys → Plan) → AreAll P next → P (keyset_under from table master form bytes next)
+keyset_under_each P o from table None form bytes next all = keyset_each P o.closed from form bytes next all
+keyset_under_each P o from table (Some master) form bytes next all = o.closed.allocated _ (unwrapped_each P o.closed from (begins_of bytes) (is_keyset form bytes) (keyset_sealer form master bytes) (unwrap_of master table bytes (is_json form)) next all)
 
-master_each : (P : Plan → Type 0) → IsOpen P → (table : Table) (master : Master) (next : Option Keys → Plan) → AreAll P next → P (opens_master table master next)
-master_each P o table master next all = o.loaded keyset_limit master.file _ (λ bytes. keyset_each P o.closed master.form bytes _ (λ keys. o.closed.allocated _ (fit_each P o.closed (unfit keys Aead table) _ (all (Some keys)))))
+master_each : (P : Plan → Type 0) → IsOpen P → (from : Origin) (table : Table) (master : Master) (next : Option Keys → Plan) → AreAll P next → P (opens_master from table master next)
+master_each P o from table master next all = o.loaded from keyset_limit master.file _ (λ bytes. keyset_each P o.closed from master.form bytes _ (λ keys. o.closed.allocated _ (fit_each P o.closed (unfit keys Aead table) _ (all (Some keys)))))
 
 pub lock_each : (P : Plan → Type 0) → IsOpen P → (table : Table) (lock : Lock) (next : Option Keys → Plan) → AreAll P next → P (opens_lock table lock next)
 lock_each P o table None next all = all None
-lock_each P o table (Some master) next all = master_each P o table master next all
+lock_each P o table (Some master) next all = master_each P o origins.Master table master next all
 
 pub new_lock_each : (P : Plan → Type 0) → IsOpen P → (table : Table) (new : NewLock) (taken : Option Keys) (next : Option Keys → Plan) → AreAll P next → P (opens_new_lock table new taken next)
 new_lock_each P o table as_taken taken next all = all taken
 new_lock_each P o table in_clear taken next all = all None
-new_lock_each P o table (under master) taken next all = master_each P o table master next all
+new_lock_each P o table (under master) taken next all = master_each P o (put_origin taken) table master next all
 
-pub under_each : (P : Plan → Type 0) → IsOpen P → (table : Table) (master : Option Keys) (place : Place) (next : Keys → Plan) → AreAll P next → P (takes_under table master place next)
-under_each P o table master place next all = bytes_each P o (limit_under master) place.file (λ bytes. keyset_under table master place.form bytes next) (λ bytes. keyset_under_each P o table master place.form bytes next all)
+pub under_each : (P : Plan → Type 0) → IsOpen P → (from : Origin) (table : Table) (master : Option Keys) (place : Place) (next : Keys → Plan) → AreAll P next → P (takes_under from table master place next)
+under_each P o from table master place next all = bytes_each P o from (limit_under master) place.file (λ bytes. keyset_under (origin_of from place.file) table master place.form bytes next) (λ bytes. keyset_under_each P o (origin_of from place.file) table master place.form bytes next all)
 
-pub locked_each : (P : Plan → Type 0) → IsOpen P → (table : Table) (lock : Lock) (place : Place) (next : Keys → Plan) → AreAll P next → P (takes_locked table lock place next)
-locked_each P o table lock place next all = lock_each P o table lock _ (λ master. under_each P o table master place next all)
+pub locked_each : (P : Plan → Type 0) → IsOpen P → (from : Origin) (table : Table) (lock : Lock) (place : Place) (next : Keys → Plan) → AreAll P next → P (takes_locked from table lock place next)
+locked_each P o from table lock place next all = lock_each P o table lock _ (λ master. under_each P o from table master place next all)
 
 pub loaded_each : (P : Plan → Type 0) → IsOpen P → (table : Table) (lock : Lock) (name : List ℕ) (form : Format) (next : Keys → Plan) → AreAll P next → P (loads_locked table lock name form next)
-loaded_each P o table lock name form next all = locked_each P o table lock (record { file = Some name; form = form }) next all
+loaded_each P o table lock name form next all = locked_each P o origins.Keyset table lock (record { file = Some name; form = form }) next all
 
 pub written_under_each : (P : Plan → Type 0) → IsClosed P → (table : Table) (master : Option Keys) (form : Format) (keys : Keys) → ((m : Keys) → IsClosedAt P sealings (wraps keys m table form)) → (next : List ℕ → Plan) → AreAll P next → P (writes_under table master form keys next)
 written_under_each P c table None form keys drawn next all = written_each P c form keys next all

@@ -30,6 +30,11 @@ use Rattle.tinkey_session.specs.declared.reply.Refusal.TheVariants.{Command}
 use Rattle.wrapped_prims.specs.Answers.{Sealed, seal_answer, seal_behind}
 use Rattle.wrapped_prims.specs.Fitness.{Unfit, unfit}
 use Rattle.tinkey_plans.specs.declared.status.Status.{Status}
+use Rattle.tinkey_plans.specs.Origins.{begins_of}
+use Rattle.tinkey_plans.specs.declared.origin.Begins.{Begins}
+use Rattle.tinkey_plans.specs.declared.origin.Begins.TheVariants as begun
+use Rattle.tinkey_plans.specs.declared.origin.Origin.{Origin}
+use Rattle.tinkey_plans.specs.declared.origin.Origin.TheVariants as origins
 use Rattle.tinkey_plans.specs.declared.status.Status.TheVariants as status
 use Rattle.tinkey_words.specs.declared.words.rows.Format.{Format}
 use Rattle.tinkey_words.specs.declared.words.rows.Format.TheVariants as formats
@@ -176,44 +181,44 @@ clear_either : (b : Bool) (s t : Status) (a : IsStated s) (other : IsStated t) �
 clear_either true s t a other first second = clear_end s a first
 clear_either false s t a other first second = clear_end t other second
 
-clear_binary : (locked : Bool → Bool) (r : Result Keys Refusal) (next : Keys → Plan) → ((keys : Keys) → Clears (next keys)) → Clears (with_keyset locked r next)
-clear_binary locked (Err (Wire at)) next clear = clear_either (locked false) (status.ProtoLocked at) (status.BadProto at) tt tt (λ d. d) (λ d. d)
-clear_binary locked (Err (Fault fault)) next clear = clear_either (locked true) (status.KeysetLocked fault) (status.Keyset fault) tt tt (λ d. d) (λ d. d)
-clear_binary locked (Ok keys) next clear = clear keys
+clear_binary : (from : Origin) (begins : Begins) (locked : Bool → Bool) (r : Result Keys Refusal) (next : Keys → Plan) → ((keys : Keys) → Clears (next keys)) → Clears (with_keyset from begins locked r next)
+clear_binary from begins locked (Err (Wire at)) next clear = clear_either (locked false) (status.ProtoLocked at) (status.BadProto at from begins) tt tt (λ d. d) (λ d. d)
+clear_binary from begins locked (Err (Fault fault)) next clear = clear_either (locked true) (status.KeysetLocked fault) (status.Keyset fault) tt tt (λ d. d) (λ d. d)
+clear_binary from begins locked (Ok keys) next clear = clear keys
 
-clear_json : (locked : Bool) (r : Result Keys Json.Refusal) (next : Keys → Plan) → ((keys : Keys) → Clears (next keys)) → Clears (with_json locked r next)
-clear_json locked (Err Json.NotJson) next clear = clear_end status.NotJson tt (λ d. d)
-clear_json locked (Err (Json.Shape path)) next clear = clear_end (status.Shape path) tt (λ d. d)
-clear_json locked (Err (Json.Fault fault)) next clear = clear_either (locked && has_no_key fault) (status.KeysetLocked fault) (status.Keyset fault) tt tt (λ d. d) (λ d. d)
-clear_json locked (Ok keys) next clear = clear keys
+clear_json : (from : Origin) (begins : Begins) (locked : Bool) (r : Result Keys Json.Refusal) (next : Keys → Plan) → ((keys : Keys) → Clears (next keys)) → Clears (with_json from begins locked r next)
+clear_json from begins locked (Err Json.NotJson) next clear = clear_end (status.NotJson from begins) tt (λ d. d)
+clear_json from begins locked (Err (Json.Shape path)) next clear = clear_end (status.Shape path from) tt (λ d. d)
+clear_json from begins locked (Err (Json.Fault fault)) next clear = clear_either (locked && has_no_key fault) (status.KeysetLocked fault) (status.Keyset fault) tt tt (λ d. d) (λ d. d)
+clear_json from begins locked (Ok keys) next clear = clear keys
 
-clear_keyset : (form : Format) (bytes : List ℕ) (next : Keys → Plan) → ((keys : Keys) → Clears (next keys)) → Clears (keyset_in form bytes next)
-clear_keyset formats.Json bytes next clear = clear_memory _ (clear_json (is_wrapped_json bytes) (reads_json bytes) next clear)
-clear_keyset formats.Binary bytes next clear = clear_memory _ (clear_binary (is_wrapped_binary bytes) (reads_binary bytes) next clear)
+clear_keyset : (from : Origin) (form : Format) (bytes : List ℕ) (next : Keys → Plan) → ((keys : Keys) → Clears (next keys)) → Clears (keyset_in from form bytes next)
+clear_keyset from formats.Json bytes next clear = clear_memory _ (clear_json from (begins_of bytes) (is_wrapped_json bytes) (reads_json bytes) next clear)
+clear_keyset from formats.Binary bytes next clear = clear_memory _ (clear_binary from (begins_of bytes) (is_wrapped_binary bytes) (reads_binary bytes) next clear)
 
-clear_load : (limit : ℕ) (name : List ℕ) (next : List ℕ → Plan) → ((bytes : List ℕ) → Clears (next bytes)) → Clears (loads_bytes limit name next)
-clear_load limit name next clear old s new (loaded bytes store kept stood given within holds run) d = clear bytes (record old { store = store }) s new run d
-clear_load limit name next clear old s new (load_absent is only kept stood given holds) d = subst IsDekStatus is d
-clear_load limit name next clear old s new (load_long is only kept stood given holds) d = subst IsDekStatus is d
-clear_load limit name next clear old s new (load_failed is only kept rose given) d = subst IsDekStatus is d
-clear_load limit name next clear old s new (load_starved is only kept stood given) d = subst IsDekStatus is d
+clear_load : (from : Origin) (limit : ℕ) (name : List ℕ) (next : List ℕ → Plan) → ((bytes : List ℕ) → Clears (next bytes)) → Clears (loads_bytes from limit name next)
+clear_load from limit name next clear old s new (loaded bytes store kept stood given within holds run) d = clear bytes (record old { store = store }) s new run d
+clear_load from limit name next clear old s new (load_absent is only kept stood given holds) d = subst IsDekStatus is d
+clear_load from limit name next clear old s new (load_long is only kept stood given holds) d = subst IsDekStatus is d
+clear_load from limit name next clear old s new (load_failed is only kept rose given) d = subst IsDekStatus is d
+clear_load from limit name next clear old s new (load_starved is only kept stood given) d = subst IsDekStatus is d
 
-clear_unwrapped : (clear' : Bool) (sealer : Sealer) (r : Result Keys unwrapped.Refusal) (next : Keys → Plan) → ((keys : Keys) → Clears (next keys)) → Clears (with_unwrapped clear' sealer r next)
-clear_unwrapped clear' sealer (Err (unwrapped.OuterWire at)) next clear = clear_end (status.BadProto at) tt (λ d. d)
-clear_unwrapped clear' sealer (Err unwrapped.NotJson) next clear = clear_end status.NotJson tt (λ d. d)
-clear_unwrapped clear' sealer (Err unwrapped.Member) next clear = clear_end status.WrappedMember tt (λ d. d)
-clear_unwrapped clear' sealer (Err unwrapped.NotOpened) next clear = clear_either clear' status.KeysetInClear (status.OpenFailed unopened.Keyset sealer) tt tt (λ d. d) (λ d. d)
-clear_unwrapped clear' sealer (Err (unwrapped.InnerWire at)) next clear = clear_end (status.BadProto at) tt (λ d. d)
-clear_unwrapped clear' sealer (Err (unwrapped.Fault fault)) next clear = clear_end (status.Keyset fault) tt (λ d. d)
-clear_unwrapped clear' sealer (Ok keys) next clear = clear keys
+clear_unwrapped : (from : Origin) (begins : Begins) (clear' : Bool) (sealer : Sealer) (r : Result Keys unwrapped.Refusal) (next : Keys → Plan) → ((keys : Keys) → Clears (next keys)) → Clears (with_unwrapped from begins clear' sealer r next)
+clear_unwrapped from begins clear' sealer (Err (unwrapped.OuterWire at)) next clear = clear_end (status.BadProto at from begins) tt (λ d. d)
+clear_unwrapped from begins clear' sealer (Err unwrapped.NotJson) next clear = clear_end (status.NotJson from begins) tt (λ d. d)
+clear_unwrapped from begins clear' sealer (Err unwrapped.Member) next clear = clear_end (status.WrappedMember from) tt (λ d. d)
+clear_unwrapped from begins clear' sealer (Err unwrapped.NotOpened) next clear = clear_either clear' status.KeysetInClear (status.OpenFailed unopened.Keyset sealer) tt tt (λ d. d) (λ d. d)
+clear_unwrapped from begins clear' sealer (Err (unwrapped.InnerWire at)) next clear = clear_end (status.BadProto at from begun.Otherwise) tt (λ d. d)
+clear_unwrapped from begins clear' sealer (Err (unwrapped.Fault fault)) next clear = clear_end (status.Keyset fault) tt (λ d. d)
+clear_unwrapped from begins clear' sealer (Ok keys) next clear = clear keys
 
-clear_under : (master : Option Keys) (name : List ℕ) (form : Format) (next : Keys → Plan) → ((keys : Keys) → Clears (next keys)) → Clears (takes_under standard_table master (record { file = Some name; form = form }) next)
-clear_under None name form next clear = clear_load keyset_limit name (λ bytes. keyset_in form bytes next) (λ bytes. clear_keyset form bytes next clear)
-clear_under (Some master) name form next clear = clear_load wrapped_limit name (λ text. unwraps master standard_table form text next) (λ text. clear_memory (with_unwrapped (is_keyset form text) (keyset_sealer form master text) (unwrap_of master standard_table text (is_json form)) next) (clear_unwrapped (is_keyset form text) (keyset_sealer form master text) (unwrap_of master standard_table text (is_json form)) next clear))
+clear_under : (master : Option Keys) (name : List ℕ) (form : Format) (next : Keys → Plan) → ((keys : Keys) → Clears (next keys)) → Clears (takes_under origins.Keyset standard_table master (record { file = Some name; form = form }) next)
+clear_under None name form next clear = clear_load origins.Keyset keyset_limit name (λ bytes. keyset_in origins.Keyset form bytes next) (λ bytes. clear_keyset origins.Keyset form bytes next clear)
+clear_under (Some master) name form next clear = clear_load origins.Keyset wrapped_limit name (λ text. unwraps origins.Keyset master standard_table form text next) (λ text. clear_memory (with_unwrapped origins.Keyset (begins_of text) (is_keyset form text) (keyset_sealer form master text) (unwrap_of master standard_table text (is_json form)) next) (clear_unwrapped origins.Keyset (begins_of text) (is_keyset form text) (keyset_sealer form master text) (unwrap_of master standard_table text (is_json form)) next clear))
 
 clear_lock : (lock : Lock) (next : Option Keys → Plan) → ((master : Option Keys) → Clears (next master)) → Clears (opens_lock standard_table lock next)
 clear_lock None next clear = clear None
-clear_lock (Some master) next clear = clear_load keyset_limit master.file (λ bytes. keyset_in master.form bytes (λ keys. handles standard_table Aead keys (λ fit. next (Some keys)))) (λ bytes. clear_keyset master.form bytes (λ keys. handles standard_table Aead keys (λ fit. next (Some keys))) (λ keys. clear_memory (unless_unfit (unfit keys Aead standard_table) (next (Some keys))) (clear_unfit (unfit keys Aead standard_table) (next (Some keys)) (clear (Some keys)))))
+clear_lock (Some master) next clear = clear_load origins.Master keyset_limit master.file (λ bytes. keyset_in origins.Master master.form bytes (λ keys. handles standard_table Aead keys (λ fit. next (Some keys)))) (λ bytes. clear_keyset origins.Master master.form bytes (λ keys. handles standard_table Aead keys (λ fit. next (Some keys))) (λ keys. clear_memory (unless_unfit (unfit keys Aead standard_table) (next (Some keys))) (clear_unfit (unfit keys Aead standard_table) (next (Some keys)) (clear (Some keys)))))
 
 clear_locked : (lock : Lock) (name : List ℕ) (form : Format) (next : Keys → Plan) → ((keys : Keys) → Clears (next keys)) → Clears (loads_locked standard_table lock name form next)
 clear_locked lock name form next clear = clear_lock lock _ (λ master. clear_under master name form next clear)

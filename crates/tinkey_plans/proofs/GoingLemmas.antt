@@ -17,6 +17,7 @@ use Rattle.tinkey_cmds.specs.Edits.{first, step}
 use Rattle.tinkey_cmds.specs.declared.command.CmdFault.{CmdFault}
 use Rattle.wrapped_prims.specs.Fitness.{unfit}
 use Rattle.tinkey_plans.specs.declared.status.Status.{Status}
+use Rattle.tinkey_plans.specs.declared.origin.Origin.TheVariants as origins
 use Rattle.tinkey_plans.specs.declared.status.Status.TheVariants as status
 use Rattle.tinkey_words.specs.declared.words.rows.Format.{Format}
 use Rattle.tinkey_words.specs.declared.words.rows.SealedForm.{SealedForm}
@@ -161,7 +162,7 @@ closed : IsClosed IsProper
 closed = record { ended = λ s stated. tt; allocated = λ next all. all }
 
 open' : IsOpen IsProper
-open' = record { closed = closed; loaded = λ limit name next all. (λ e. cc, λ e. cc, all); read = λ limit next all. (λ e. cc, all) }
+open' = record { closed = closed; loaded = λ from limit name next all. (λ e. cc, λ e. cc, all); read = λ limit next all. (λ e. cc, all) }
 
 draw_proper : (give : Draw Keys) (next : Keys → Plan) → AreAll IsProper next → IsProper (makes_keyset give next)
 draw_proper give next proper = λ given. made_each IsProper closed given next proper
@@ -224,10 +225,10 @@ tells_proper sealed.Stream ad keys = stream_fit_proper (streams.stream_unfit key
 
 commands_are_proper : (table : Table) (asked : Asked) → IsProper (command_plan table asked)
 commands_are_proper table (create_keyset lock name out) = (row_each IsProper closed (row_named name) name _ (λ row. lock_each IsProper open' table lock _ (λ master. draw_proper (first row) _ (out_proper table master out))))
-commands_are_proper table (edit_keyset lock edit in' out) = (edit_each IsProper closed edit _ (λ edit. lock_each IsProper open' table lock _ (λ master. under_each IsProper open' table master in' _ (λ keys. draw_proper (step keys edit) _ (out_proper table master out)))))
-commands_are_proper table (list_keyset lock in') = (locked_each IsProper open' table lock in' _ (λ keys. tt))
+commands_are_proper table (edit_keyset lock edit in' out) = (edit_each IsProper closed edit _ (λ edit. lock_each IsProper open' table lock _ (λ master. under_each IsProper open' origins.In table master in' _ (λ keys. draw_proper (step keys edit) _ (out_proper table master out)))))
+commands_are_proper table (list_keyset lock in') = (locked_each IsProper open' origins.In table lock in' _ (λ keys. tt))
 commands_are_proper table (key_of lock name form kind ad) = loaded_each IsProper open' table lock name form _ (tells_proper kind ad)
-commands_are_proper table (convert_keyset lock new in' out) = (lock_each IsProper open' table lock _ (λ taken. new_lock_each IsProper open' table new taken _ (λ put. under_each IsProper open' table taken in' _ (out_proper table put out))))
+commands_are_proper table (convert_keyset lock new in' out) = (lock_each IsProper open' table lock _ (λ taken. new_lock_each IsProper open' table new taken _ (λ put. under_each IsProper open' origins.In table taken in' _ (out_proper table put out))))
 commands_are_proper table (list_key_templates primitive) = tt
 commands_are_proper table (use_keyset lock name form work out) = (loaded_each IsProper open' table lock name form _ (λ keys. fit_each IsProper closed (unfit keys (primitive_for work) table) _ (λ e. cc, λ input. work_each IsProper closed table keys work input (λ plain ad next all. all) (puts_output out) (shown_proper out.hex out.file))))
 commands_are_proper table (use_envelope lock name form template work out) = (dek_each IsProper closed template _ (λ row. loaded_each IsProper open' table lock name form _ (λ keys. fit_each IsProper closed (unfit keys Aead table) _ (scheme_each IsProper closed (scheme_at table Aead (url_made row)) _ (λ scheme. (λ e. cc, λ input. envelope_each IsProper closed table keys scheme row work input (λ ad next all. all) (λ plain ad next all. all) (puts out) (put_proper out)))))))
@@ -236,7 +237,7 @@ commands_are_proper table (open_stream lock name form ad out) = loaded_each IsPr
 commands_are_proper table (reseal_stream lock name form ad out) = loaded_each IsProper open' table lock name form _ (λ keys. stream_fit_proper (streams.stream_unfit keys) _ (stream_keys_proper (keys_for keys) _ (reseals_proper ad out)))
 commands_are_proper table (open_range lock name form ad range out) = (loaded_each IsProper open' table lock name form _ (λ keys. stream_fit_proper (streams.stream_unfit keys) _ (stream_keys_proper (keys_for keys) _ (λ k. (λ e. cc, λ opened. stretch_each IsProper closed opened _ (put_proper out))))))
 commands_are_proper table (self_test seed lines) = (counts_proper (trial.self_test table seed lines) lines)
-commands_are_proper table (session lock name form out) = lock_each IsProper open' table lock _ (λ master. under_each IsProper open' table master (record { file = Some name; form = form }) (holds_session table master out) (λ keys. free_proper out.file _ (λ last. saves_proper table master out.file out.form last)))
+commands_are_proper table (session lock name form out) = lock_each IsProper open' table lock _ (λ master. under_each IsProper open' origins.Keyset table master (record { file = Some name; form = form }) (holds_session table master out) (λ keys. free_proper out.file _ (λ last. saves_proper table master out.file out.form last)))
 commands_are_proper table (help topic) = tt
 commands_are_proper table version = tt
 

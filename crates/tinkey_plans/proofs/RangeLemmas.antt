@@ -17,6 +17,10 @@ use Rattle.segment_stream.specs.StreamKeys.{StreamUnfit, largest_of, not_stream,
 use Rattle.tink_spec.specs.Files.{Files, Holds, StoreState}
 use Rattle.wrapped_prims.specs.Fitness.{Unfit, unfit}
 use Rattle.tinkey_plans.specs.declared.status.Status.{Status}
+use Rattle.tinkey_plans.specs.Origins.{begins_of}
+use Rattle.tinkey_plans.specs.declared.origin.Begins.{Begins}
+use Rattle.tinkey_plans.specs.declared.origin.Origin.{Origin}
+use Rattle.tinkey_plans.specs.declared.origin.Origin.TheVariants as origins
 use Rattle.tinkey_plans.specs.declared.status.Status.TheVariants as status
 use Rattle.tinkey_words.specs.declared.words.rows.Format.{Format}
 use Rattle.tinkey_words.specs.declared.words.rows.Format.TheVariants as formats
@@ -73,7 +77,7 @@ record StretchGave (x : Stretch) (old : StoreState) (s : Status) (new : StoreSta
   past : s ≡ status.PastEnd → most ≤ 2 * x.largest
   within : GaveWithin old new most
 
-stretch_gave : (x : Stretch) (out : Option (List ℕ)) (old : World) (s : Status) (new : World) → EndsRanging x status.InMissing (λ opened. Ends (with_stretch opened (puts out))) old s new → GaveWithin old.store new.store 0 ⊎ StretchGave x old.store s new.store
+stretch_gave : (x : Stretch) (out : Option (List ℕ)) (old : World) (s : Status) (new : World) → EndsRanging x status.StreamMissing (λ opened. Ends (with_stretch opened (puts out))) old s new → GaveWithin old.store new.store 0 ⊎ StretchGave x old.store s new.store
 stretch_gave x out old s new (ranged opened store most kept stood given least past holds run) =
     let later = behind opened out (record old { store = store }) s new run in
     inr (record { most = most; least = least; past = λ e. past (later.past e); within = omega (arith, given, later.none) })
@@ -93,46 +97,46 @@ faulty_ends : (b : Bool) (fault : KeysetFault) (old : World) (s : Status) (new :
 faulty_ends true fault old s new (is, same) = same
 faulty_ends false fault old s new (is, same) = same
 
-wire_ends : (b : Bool) (at : ℕ) (old : World) (s : Status) (new : World) → Ends (if b then ends (status.ProtoLocked at) tt else ends (status.BadProto at) tt) old s new → old ≡ new
-wire_ends true at old s new (is, same) = same
-wire_ends false at old s new (is, same) = same
+wire_ends : (from : Origin) (begins : Begins) (b : Bool) (at : ℕ) (old : World) (s : Status) (new : World) → Ends (if b then ends (status.ProtoLocked at) tt else ends (status.BadProto at from begins) tt) old s new → old ≡ new
+wire_ends from begins true at old s new (is, same) = same
+wire_ends from begins false at old s new (is, same) = same
 
-json_ends : (locked : Bool) (r : Result Keys Json.Refusal) (bytes : List ℕ) (next : Keys → Plan) (old : World) (s : Status) (new : World) → reads_json bytes ≡ r → Ends (with_json locked r next) old s new → (old ≡ new) ⊎ WentOn (λ keys. reads_json bytes ≡ Ok keys) next old s new
-json_ends locked (Err Json.NotJson) bytes next old s new r (is, same) = inl same
-json_ends locked (Err (Json.Shape path)) bytes next old s new r (is, same) = inl same
-json_ends locked (Err (Json.Fault fault)) bytes next old s new r run = inl (faulty_ends (locked && has_no_key fault) fault old s new run)
-json_ends locked (Ok keys) bytes next old s new r run = inr (record { value = keys; is = r; run = run })
+json_ends : (from : Origin) (begins : Begins) (locked : Bool) (r : Result Keys Json.Refusal) (bytes : List ℕ) (next : Keys → Plan) (old : World) (s : Status) (new : World) → reads_json bytes ≡ r → Ends (with_json from begins locked r next) old s new → (old ≡ new) ⊎ WentOn (λ keys. reads_json bytes ≡ Ok keys) next old s new
+json_ends from begins locked (Err Json.NotJson) bytes next old s new r (is, same) = inl same
+json_ends from begins locked (Err (Json.Shape path)) bytes next old s new r (is, same) = inl same
+json_ends from begins locked (Err (Json.Fault fault)) bytes next old s new r run = inl (faulty_ends (locked && has_no_key fault) fault old s new run)
+json_ends from begins locked (Ok keys) bytes next old s new r run = inr (record { value = keys; is = r; run = run })
 
-binary_ends : (locked : Bool → Bool) (r : Result Keys Refusal) (bytes : List ℕ) (next : Keys → Plan) (old : World) (s : Status) (new : World) → reads_binary bytes ≡ r → Ends (with_keyset locked r next) old s new → (old ≡ new) ⊎ WentOn (λ keys. reads_binary bytes ≡ Ok keys) next old s new
-binary_ends locked (Err (Wire at)) bytes next old s new r run = inl (wire_ends (locked false) at old s new run)
-binary_ends locked (Err (Fault fault)) bytes next old s new r run = inl (faulty_ends (locked true) fault old s new run)
-binary_ends locked (Ok keys) bytes next old s new r run = inr (record { value = keys; is = r; run = run })
+binary_ends : (from : Origin) (begins : Begins) (locked : Bool → Bool) (r : Result Keys Refusal) (bytes : List ℕ) (next : Keys → Plan) (old : World) (s : Status) (new : World) → reads_binary bytes ≡ r → Ends (with_keyset from begins locked r next) old s new → (old ≡ new) ⊎ WentOn (λ keys. reads_binary bytes ≡ Ok keys) next old s new
+binary_ends from begins locked (Err (Wire at)) bytes next old s new r run = inl (wire_ends from begins (locked false) at old s new run)
+binary_ends from begins locked (Err (Fault fault)) bytes next old s new r run = inl (faulty_ends (locked true) fault old s new run)
+binary_ends from begins locked (Ok keys) bytes next old s new r run = inr (record { value = keys; is = r; run = run })
 
-keyset_ends : (form : Format) (bytes : List ℕ) (next : Keys → Plan) (old : World) (s : Status) (new : World) → Ends (keyset_in form bytes next) old s new → (old ≡ new) ⊎ WentOn (λ keys. IsKeysetIn form bytes keys) next old s new
-keyset_ends formats.Json bytes next old s new (inl run) = json_ends (is_wrapped_json bytes) (reads_json bytes) bytes next old s new refl run
-keyset_ends formats.Json bytes next old s new (inr (is, same)) = inl same
-keyset_ends formats.Binary bytes next old s new (inl run) = binary_ends (is_wrapped_binary bytes) (reads_binary bytes) bytes next old s new refl run
-keyset_ends formats.Binary bytes next old s new (inr (is, same)) = inl same
+keyset_ends : (from : Origin) (form : Format) (bytes : List ℕ) (next : Keys → Plan) (old : World) (s : Status) (new : World) → Ends (keyset_in from form bytes next) old s new → (old ≡ new) ⊎ WentOn (λ keys. IsKeysetIn form bytes keys) next old s new
+keyset_ends from formats.Json bytes next old s new (inl run) = json_ends from (begins_of bytes) (is_wrapped_json bytes) (reads_json bytes) bytes next old s new refl run
+keyset_ends from formats.Json bytes next old s new (inr (is, same)) = inl same
+keyset_ends from formats.Binary bytes next old s new (inl run) = binary_ends from (begins_of bytes) (is_wrapped_binary bytes) (reads_binary bytes) bytes next old s new refl run
+keyset_ends from formats.Binary bytes next old s new (inr (is, same)) = inl same
 
 -- under a master
 unopened_ends : (clear : Bool) (sealer : Sealer) (old : World) (s : Status) (new : World) → Ends (ends_unopened clear sealer) old s new → old ≡ new
 unopened_ends true sealer old s new (is, same) = same
 unopened_ends false sealer old s new (is, same) = same
 
-given_ends : (clear : Bool) (sealer : Sealer) (table : Table) (master : Keys) (form : Format) (bytes : List ℕ) (r : Result Keys unwrapping.Refusal) (next : Keys → Plan) (old : World) (s : Status) (new : World) → unwrap_of master table bytes (is_json form) ≡ r → Ends (with_unwrapped clear sealer r next) old s new
+given_ends : (from : Origin) (begins : Begins) (clear : Bool) (sealer : Sealer) (table : Table) (master : Keys) (form : Format) (bytes : List ℕ) (r : Result Keys unwrapping.Refusal) (next : Keys → Plan) (old : World) (s : Status) (new : World) → unwrap_of master table bytes (is_json form) ≡ r → Ends (with_unwrapped from begins clear sealer r next) old s new
     → (old ≡ new) ⊎ WentOn (λ keys. unwrap_of master table bytes (is_json form) ≡ Ok keys) next old s new
-given_ends clear sealer table master form bytes (Err (unwrapping.OuterWire at)) next old s new r (is, same) = inl same
-given_ends clear sealer table master form bytes (Err unwrapping.NotJson) next old s new r (is, same) = inl same
-given_ends clear sealer table master form bytes (Err unwrapping.Member) next old s new r (is, same) = inl same
-given_ends clear sealer table master form bytes (Err unwrapping.NotOpened) next old s new r run = inl (unopened_ends clear sealer old s new run)
-given_ends clear sealer table master form bytes (Err (unwrapping.InnerWire at)) next old s new r (is, same) = inl same
-given_ends clear sealer table master form bytes (Err (unwrapping.Fault fault)) next old s new r (is, same) = inl same
-given_ends clear sealer table master form bytes (Ok keys) next old s new r run = inr (record { value = keys; is = r; run = run })
+given_ends from begins clear sealer table master form bytes (Err (unwrapping.OuterWire at)) next old s new r (is, same) = inl same
+given_ends from begins clear sealer table master form bytes (Err unwrapping.NotJson) next old s new r (is, same) = inl same
+given_ends from begins clear sealer table master form bytes (Err unwrapping.Member) next old s new r (is, same) = inl same
+given_ends from begins clear sealer table master form bytes (Err unwrapping.NotOpened) next old s new r run = inl (unopened_ends clear sealer old s new run)
+given_ends from begins clear sealer table master form bytes (Err (unwrapping.InnerWire at)) next old s new r (is, same) = inl same
+given_ends from begins clear sealer table master form bytes (Err (unwrapping.Fault fault)) next old s new r (is, same) = inl same
+given_ends from begins clear sealer table master form bytes (Ok keys) next old s new r run = inr (record { value = keys; is = r; run = run })
 
-under_ends : (table : Table) (master : Option Keys) (form : Format) (bytes : List ℕ) (next : Keys → Plan) (old : World) (s : Status) (new : World) → Ends (keyset_under table master form bytes next) old s new → (old ≡ new) ⊎ WentOn (λ keys. GivesKeysetIn table master form bytes keys) next old s new
-under_ends table None form bytes next old s new run = keyset_ends form bytes next old s new run
-under_ends table (Some master) form bytes next old s new (inl run) = given_ends (is_keyset form bytes) (keyset_sealer form master bytes) table master form bytes (unwrap_of master table bytes (is_json form)) next old s new refl run
-under_ends table (Some master) form bytes next old s new (inr (is, same)) = inl same
+under_ends : (from : Origin) (table : Table) (master : Option Keys) (form : Format) (bytes : List ℕ) (next : Keys → Plan) (old : World) (s : Status) (new : World) → Ends (keyset_under from table master form bytes next) old s new → (old ≡ new) ⊎ WentOn (λ keys. GivesKeysetIn table master form bytes keys) next old s new
+under_ends from table None form bytes next old s new run = keyset_ends from form bytes next old s new run
+under_ends from table (Some master) form bytes next old s new (inl run) = given_ends from (begins_of bytes) (is_keyset form bytes) (keyset_sealer form master bytes) table master form bytes (unwrap_of master table bytes (is_json form)) next old s new refl run
+under_ends from table (Some master) form bytes next old s new (inr (is, same)) = inl same
 
 -- a master that can serve
 serves_ends : (found : Option (ℕ × Unfit)) (next : Plan) (old : World) (s : Status) (new : World) → Ends (handling.unless_unfit found next) old s new → (old ≡ new) ⊎ Ends next old s new
@@ -185,12 +189,12 @@ record UnderGave (table : Table) (master : Option Keys) (name : List ℕ) (form 
   within : GaveWithin old new (limit_under master + most)
 
 under_gave : (table : Table) (master : Option Keys) (name : List ℕ) (form : Format) (ad : List ℕ) (range : AskedRange) (out : Option (List ℕ)) (old : World) (s : Status) (new : World)
-    → Ends (takes_under table master (record { file = Some name; form = form }) (loads_behind (stretch_plan ad range out))) old s new → GaveWithin old.store new.store (limit_under master + 1) ⊎ UnderGave table master name form ad range old.store s new.store
+    → Ends (takes_under origins.Keyset table master (record { file = Some name; form = form }) (loads_behind (stretch_plan ad range out))) old s new → GaveWithin old.store new.store (limit_under master + 1) ⊎ UnderGave table master name form ad range old.store s new.store
 under_gave table master name form ad range out old s new (load_absent is only kept stood given holds) = inl (omega (arith, given))
 under_gave table master name form ad range out old s new (load_long is only kept stood given holds) = inl given
 under_gave table master name form ad range out old s new (load_failed is only kept rose given) = inl given
 under_gave table master name form ad range out old s new (load_starved is only kept stood given) = inl given
-under_gave table master name form ad range out old s new (loaded bytes store kept stood given within holds run) = by (under_ends table master form bytes (loads_behind (stretch_plan ad range out)) mid s new run)
+under_gave table master name form ad range out old s new (loaded bytes store kept stood given within holds run) = by (under_ends origins.Keyset table master form bytes (loads_behind (stretch_plan ad range out)) mid s new run)
   where
     mid : World
     mid = record old { store = store }
@@ -250,13 +254,13 @@ locked_gave table lock name form ad range out old s new (load_absent is only kep
 locked_gave table lock name form ad range out old s new (load_long is only kept stood given holds) = inl (omega (arith, given))
 locked_gave table lock name form ad range out old s new (load_failed is only kept rose given) = inl (omega (arith, given))
 locked_gave table lock name form ad range out old s new (load_starved is only kept stood given) = inl (omega (arith, given))
-locked_gave table lock name form ad range out old s new (loaded bytes store kept stood given within holds run) = by (keyset_ends lock.form bytes opens mid s new run)
+locked_gave table lock name form ad range out old s new (loaded bytes store kept stood given within holds run) = by (keyset_ends origins.Master lock.form bytes opens mid s new run)
   where
     mid : World
     mid = record old { store = store }
 
     taken : Option Keys → Plan
-    taken master = takes_under table master (record { file = Some name; form = form }) (loads_behind (stretch_plan ad range out))
+    taken master = takes_under origins.Keyset table master (record { file = Some name; form = form }) (loads_behind (stretch_plan ad range out))
 
     opens : Keys → Plan
     opens master = handles table Aead master (λ fit. taken (Some master))

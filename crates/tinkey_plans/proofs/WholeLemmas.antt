@@ -9,10 +9,10 @@ use Rattle.tinkey_cmds.specs.declared.command.CmdFault.{CmdFault}
 use Rattle.managers.specs.Table.{Table, scheme_at}
 use Rattle.seal_wrap.specs.Enveloping.{url_made}
 use Rattle.wrapped_prims.specs.Fitness.{unfit}
-use Rattle.tinkey_words.specs.declared.words.rows.Format.{Format}
 use Rattle.tinkey_words.specs.declared.words.rows.SealedForm.{SealedForm}
 use Rattle.tinkey_words.specs.declared.words.rows.SealedForm.TheVariants as sealed
 use Rattle.tinkey_plans.specs.Laws.{CommandsAreWhole}
+use Rattle.tinkey_plans.specs.declared.origin.Origin.TheVariants as origins
 use Rattle.tinkey_plans.specs.Plan.{writes, Plan}
 use Rattle.tinkey_plans.specs.Promises.{IsWhole}
 use Rattle.tinkey_plans.proofs.EachLemmas.{AreAll, IsClosed, IsOpen, dek_each, envelope_each, scheme_each, stretch_each, edit_each, fit_each, lines_each, loaded_each, lock_each, locked_each, made_each, new_lock_each, row_each, under_each, work_each, written_under_each}
@@ -32,7 +32,7 @@ closed : IsClosed IsWhole
 closed = record { ended = λ s stated. tt; allocated = λ next all. all }
 
 open' : IsOpen IsWhole
-open' = record { closed = closed; loaded = λ limit name next all. all; read = λ limit next all. all }
+open' = record { closed = closed; loaded = λ from limit name next all. all; read = λ limit next all. all }
 
 draw_whole : (give : Draw Keys) (next : Keys → Plan) → AreAll IsWhole next → IsWhole (makes_keyset give next)
 draw_whole give next whole = λ given. made_each IsWhole closed given next whole
@@ -68,10 +68,10 @@ tells_whole sealed.Stream ad keys = stream_fit_whole (streams.stream_unfit keys)
 
 pub commands_are_whole : CommandsAreWhole
 commands_are_whole table (create_keyset lock name out) = inl (row_each IsWhole closed (row_named name) name _ (λ row. lock_each IsWhole open' table lock _ (λ master. draw_whole (first row) _ (out_whole table master out))))
-commands_are_whole table (edit_keyset lock edit in' out) = inl (edit_each IsWhole closed edit _ (λ edit. lock_each IsWhole open' table lock _ (λ master. under_each IsWhole open' table master in' _ (λ keys. draw_whole (step keys edit) _ (out_whole table master out)))))
-commands_are_whole table (list_keyset lock in') = inl (locked_each IsWhole open' table lock in' _ (λ keys. tt))
+commands_are_whole table (edit_keyset lock edit in' out) = inl (edit_each IsWhole closed edit _ (λ edit. lock_each IsWhole open' table lock _ (λ master. under_each IsWhole open' origins.In table master in' _ (λ keys. draw_whole (step keys edit) _ (out_whole table master out)))))
+commands_are_whole table (list_keyset lock in') = inl (locked_each IsWhole open' origins.In table lock in' _ (λ keys. tt))
 commands_are_whole table (key_of lock name form kind ad) = inl (loaded_each IsWhole open' table lock name form _ (tells_whole kind ad))
-commands_are_whole table (convert_keyset lock new in' out) = inl (lock_each IsWhole open' table lock _ (λ taken. new_lock_each IsWhole open' table new taken _ (λ put. under_each IsWhole open' table taken in' _ (out_whole table put out))))
+commands_are_whole table (convert_keyset lock new in' out) = inl (lock_each IsWhole open' table lock _ (λ taken. new_lock_each IsWhole open' table new taken _ (λ put. under_each IsWhole open' origins.In table taken in' _ (out_whole table put out))))
 commands_are_whole table (list_key_templates primitive) = inl tt
 commands_are_whole table (use_keyset lock name form work out) = inl (loaded_each IsWhole open' table lock name form _ (λ keys. fit_each IsWhole closed (unfit keys (primitive_for work) table) _ (λ input. work_each IsWhole closed table keys work input (λ plain ad next all. all) (puts_output out) (shown_whole out.hex out.file))))
 commands_are_whole table (use_envelope lock name form template work out) = inl (dek_each IsWhole closed template _ (λ row. loaded_each IsWhole open' table lock name form _ (λ keys. fit_each IsWhole closed (unfit keys Aead table) _ (scheme_each IsWhole closed (scheme_at table Aead (url_made row)) _ (λ scheme. (λ input. envelope_each IsWhole closed table keys scheme row work input (λ ad next all. all) (λ plain ad next all. all) (puts out) (put_whole out)))))))

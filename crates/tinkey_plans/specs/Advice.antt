@@ -81,5 +81,6 @@ advice status.LineTooLong =
     codes "tinkey: a line has at most 65536 bytes; what the session did to the keyset is lost\n"
 advice status.TooManyLines =
     codes "tinkey: a session has at most 100000 lines; what it did to the keyset is lost\n"
+advice status.StreamMissing = codes "tinkey: the file that --file gives is not there\n"
 advice status.OutExists = codes "tinkey: no file is ever replaced: give --out another name\n"
 advice other = []

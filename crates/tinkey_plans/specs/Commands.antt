@@ -11,6 +11,7 @@ use Rattle.keyset_model.specs.Keyset.{Keys}
 use Rattle.keyset_model.specs.Listing.{info_of}
 use Rattle.managers.specs.Table.{Table}
 use Rattle.tinkey_cmds.specs.Edits.{first, step}
+use Rattle.tinkey_plans.specs.declared.origin.Origin.TheVariants as origins
 use Rattle.tinkey_plans.specs.declared.status.Status.TheVariants as status
 use Rattle.tinkey_plans.specs.Plan.{Plan, ends, writes}
 use Rattle.tinkey_plans.specs.Locks.{opens_lock, opens_new_lock, puts_under, takes_locked, takes_under}
@@ -38,13 +39,13 @@ abbrev pub edit_output : Table → Lock → AskedEdit → Place → (Option Keys
 edit_output table lock asked in' next =
     finds_edit asked (λ edit.
     opens_lock table lock (λ master.
-    takes_under table master in' (λ keys.
+    takes_under origins.In table master in' (λ keys.
     makes_keyset (step keys edit) (next master))))
 
 -- list-keyset: the listing of a keyset
 abbrev pub list_keyset_output : Table → Lock → Place → (List ℕ → Plan) → Plan
 list_keyset_output table lock in' next =
-    takes_locked table lock in' (λ keys. works_out (info_of keys) next)
+    takes_locked origins.In table lock in' (λ keys. works_out (info_of keys) next)
 
 -- convert-keyset: the keyset that is taken, and the master that it is put under. Both masters are opened
 -- before the keyset is taken.
@@ -52,7 +53,7 @@ abbrev pub convert_output : Table → Lock → NewLock → Place → (Option Key
 convert_output table lock new in' next =
     opens_lock table lock (λ taken.
     opens_new_lock table new taken (λ put.
-    takes_under table taken in' (next put)))
+    takes_under origins.In table taken in' (next put)))
 
 -- the two are one primitive
 abbrev pub is_primitive : Primitive → Primitive → Bool

@@ -9,6 +9,7 @@ pub mod Laws
 pub mod Locks
 pub mod Naming
 pub mod Misfits
+pub mod Origins
 pub mod Plan
 pub mod Promises
 pub mod Sealers

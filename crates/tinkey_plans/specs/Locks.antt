@@ -8,27 +8,36 @@ use Rattle.wrapped_prims.specs.Making.{IsOver}
 use Rattle.wrapped_prims.specs.declared.held.Held.{Held}
 use Rattle.tinkey_plans.specs.Ends.{World}
 use Rattle.tinkey_plans.specs.Plan.{Plan}
-use Rattle.tinkey_plans.specs.Steps.{keyset_in, keyset_limit, puts, takes_bytes, writes_keyset, Passes}
+use Rattle.tinkey_plans.specs.Steps.{keyset_in, keyset_limit, origin_of, puts, takes_bytes, writes_keyset, Passes}
 use Rattle.tinkey_plans.specs.Wrapping.{loads_master, makes_wrapped, unwraps, wrapped_limit}
+use Rattle.tinkey_plans.specs.declared.origin.Origin.{Origin}
+use Rattle.tinkey_plans.specs.declared.origin.Origin.TheVariants as origins
 use Rattle.tinkey_plans.specs.declared.status.Status.{Status}
 use Rattle.tinkey_words.specs.declared.words.rows.Format.{Format}
 use Rattle.tinkey_words.specs.declared.words.rows.Format.TheVariants as formats
 use Rattle.tinkey_words.specs.Words.{Lock, Master, NewLock, Place, as_taken, in_clear, under}
 
--- the keyset of this master, each ENABLED record of which can serve as an AEAD
-abbrev pub opens_master : Table → Master → (Option Keys → Plan) → Plan
-opens_master table master next = loads_master table master.file master.form (λ keys. next (Some keys))
+-- the keyset of this master, which this option gives, and each ENABLED record of which can serve as an AEAD
+abbrev pub opens_master : Origin → Table → Master → (Option Keys → Plan) → Plan
+opens_master from table master next =
+    loads_master from table master.file master.form (λ keys. next (Some keys))
 
 -- that of the lock; without a lock there is none
 abbrev pub opens_lock : Table → Lock → (Option Keys → Plan) → Plan
 opens_lock table None next = next None
-opens_lock table (Some master) next = opens_master table master next
+opens_lock table (Some master) next = opens_master origins.Master table master next
+
+-- The option that gives the master for a keyset that is put, by that of the one that is taken. Without one it is
+-- the only master: wrap-keyset calls it --master, and convert-keyset --new-master.
+abbrev pub put_origin : (taken : Option Keys) → Origin
+put_origin None = origins.OnlyMaster
+put_origin (Some master) = origins.NewMaster
 
 -- the master's keyset for a keyset that is put, where this is that of the one that is taken
 abbrev pub opens_new_lock : Table → NewLock → Option Keys → (Option Keys → Plan) → Plan
 opens_new_lock table as_taken taken next = next taken
 opens_new_lock table in_clear taken next = next None
-opens_new_lock table (under master) taken next = opens_master table master next
+opens_new_lock table (under master) taken next = opens_master (put_origin taken) table master next
 
 -- how many bytes may be read as a keyset, and as one that is sealed under a master
 abbrev pub limit_under : (master : Option Keys) → ℕ
@@ -36,24 +45,26 @@ limit_under None = keyset_limit
 limit_under (Some master) = wrapped_limit
 
 -- the keyset that these bytes are, in this form, or that they give under a master
-abbrev pub keyset_under : Table → (master : Option Keys) → Format → List ℕ → (Keys → Plan) → Plan
-keyset_under table None form bytes next = keyset_in form bytes next
-keyset_under table (Some master) form bytes next = unwraps master table form bytes next
+abbrev pub keyset_under : Origin → Table → (master : Option Keys) → Format → List ℕ → (Keys → Plan) → Plan
+keyset_under from table None form bytes next = keyset_in from form bytes next
+keyset_under from table (Some master) form bytes next = unwraps from master table form bytes next
 
--- the keyset that lies at this place, in clear or under a master
-abbrev pub takes_under : Table → (master : Option Keys) → Place → (Keys → Plan) → Plan
-takes_under table master place next =
-    takes_bytes (limit_under master) place.file (λ bytes.
-    keyset_under table master place.form bytes next)
+-- the keyset that lies at this place, in clear or under a master; its file, where it has one, is what this
+-- option gives
+abbrev pub takes_under : Origin → Table → (master : Option Keys) → Place → (Keys → Plan) → Plan
+takes_under from table master place next =
+    takes_bytes from (limit_under master) place.file (λ bytes.
+    keyset_under (origin_of from place.file) table master place.form bytes next)
 
 -- the same of a lock, which is opened before the keyset is taken
-abbrev pub takes_locked : Table → Lock → Place → (Keys → Plan) → Plan
-takes_locked table lock place next = opens_lock table lock (λ master. takes_under table master place next)
+abbrev pub takes_locked : Origin → Table → Lock → Place → (Keys → Plan) → Plan
+takes_locked from table lock place next =
+    opens_lock table lock (λ master. takes_under from table master place next)
 
--- the same of the file of this name
+-- the same of the file of this name, which --keyset gives
 abbrev pub loads_locked : Table → Lock → List ℕ → Format → (Keys → Plan) → Plan
 loads_locked table lock name form next =
-    takes_locked table lock (record { file = Some name; form = form }) next
+    takes_locked origins.Keyset table lock (record { file = Some name; form = form }) next
 
 -- The keyset as it is put: written in this form, or under a master as an encrypted keyset of this form, the
 -- IV of which is the last that is drawn. One whose binary form is longer than what is read as a keyset is

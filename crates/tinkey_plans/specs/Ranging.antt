@@ -48,7 +48,7 @@ stretch_for keys ad range = record {
 -- it is opened
 abbrev pub opens_stretch : KeysForStreams → (ad : List ℕ) → AskedRange → (List ℕ → Plan) → Plan
 opens_stretch keys ad range next =
-    allocates (ranges (stretch_for keys ad range) status.InMissing tt
+    allocates (ranges (stretch_for keys ad range) status.StreamMissing tt
     (λ opened. with_stretch opened next))
 
 -- srange: a range of a stream in a file, by the keys of the keyset in another one

@@ -4,6 +4,7 @@ use Rattle.std.specs.Prelude.{ℕ, List, Option, Some, None}
 use Rattle.keyset_model.specs.Keyset.{Keys}
 use Rattle.managers.specs.Table.{Table}
 use Rattle.tinkey_session.specs.Talking.{talk}
+use Rattle.tinkey_plans.specs.declared.origin.Origin.TheVariants as origins
 use Rattle.tinkey_plans.specs.declared.status.Status.TheVariants as status
 use Rattle.tinkey_words.specs.declared.words.rows.Format.{Format}
 use Rattle.tinkey_plans.specs.Plan.{Plan, ends, creates, looks, exchanges}
@@ -38,5 +39,5 @@ holds_session table master out keys =
 abbrev pub session_plan : Table → Lock → List ℕ → Format → (out : Place) → Plan
 session_plan table lock name form out =
     opens_lock table lock (λ master.
-    takes_under table master (record { file = Some name; form = form })
+    takes_under origins.Keyset table master (record { file = Some name; form = form })
     (holds_session table master out))

@@ -12,6 +12,7 @@ use Rattle.tinkey_session.specs.Texts.{line_refusal_text, refusal_text}
 use Rattle.tinkey_plans.specs.Advice.{advice}
 use Rattle.tinkey_plans.specs.Help.{help_text}
 use Rattle.tinkey_plans.specs.Misfits.{misfit_line}
+use Rattle.tinkey_plans.specs.Origins.{file_line, missing_line, not_json_line, not_proto_line}
 use Rattle.tinkey_plans.specs.Sealers.{sealer_line}
 use Rattle.tinkey_plans.specs.declared.status.Status.{Status}
 use Rattle.tinkey_plans.specs.declared.status.Status.TheVariants as status
@@ -32,11 +33,11 @@ code_of (status.Refused refused.AsymmetricTemplate) = 2
 code_of status.DekTemplate = 2
 code_of (status.Refused (refused.OutputTooLong asked greatest)) = 2
 code_of status.PastEnd = 2
-code_of (status.BadProto at) = 3
+code_of (status.BadProto at from begins) = 3
 code_of (status.ProtoLocked at) = 3
-code_of status.NotJson = 3
-code_of (status.Shape path) = 3
-code_of status.WrappedMember = 3
+code_of (status.NotJson from begins) = 3
+code_of (status.Shape path from) = 3
+code_of (status.WrappedMember from) = 3
 code_of (status.Keyset fault) = 3
 code_of (status.KeysetLocked fault) = 3
 code_of (status.Refused (refused.NoManager i)) = 3
@@ -44,7 +45,8 @@ code_of (status.Refused (refused.BadKey i rule)) = 3
 code_of (status.Refused (refused.NotRaw i)) = 3
 code_of status.NoDekManager = 3
 code_of (status.DekRefused rule) = 3
-code_of status.InMissing = 4
+code_of (status.InMissing from) = 4
+code_of status.StreamMissing = 4
 code_of (status.Refused (refused.Command fault)) = 4
 code_of status.OutExists = 4
 code_of status.ReadFault = 5
@@ -89,15 +91,16 @@ text_of status.NoKeyOf = codes "no key of the keyset"
 text_of (status.StreamFailed number) = codes "stream failed at segment " ++ decimal number
 text_of status.NoWords = codes "usage: word 0"
 text_of (status.Usage misuse) = codes "usage: word " ++ decimal misuse.place
-text_of (status.BadProto at) = codes "bad protobuf at byte " ++ decimal at
+text_of (status.BadProto at from begins) = codes "bad protobuf at byte " ++ decimal at
 text_of (status.ProtoLocked at) = codes "bad protobuf at byte " ++ decimal at
-text_of status.NotJson = codes "not JSON"
-text_of (status.Shape path) = codes "bad JSON member " ++ name_of path.member ++ key_text path.key
-text_of status.WrappedMember = codes "bad JSON member encryptedKeyset"
+text_of (status.NotJson from begins) = codes "not JSON"
+text_of (status.Shape path from) = codes "bad JSON member " ++ name_of path.member ++ key_text path.key
+text_of (status.WrappedMember from) = codes "bad JSON member encryptedKeyset"
 text_of (status.Keyset fault) = fault_text fault
 text_of (status.KeysetLocked fault) = fault_text fault
 text_of status.KeysetTooLong = codes "keyset too long"
-text_of status.InMissing = codes "input file missing"
+text_of (status.InMissing from) = codes "input file missing"
+text_of status.StreamMissing = codes "input file missing"
 text_of status.InputTooLong = codes "input too long"
 text_of status.TooManySegments = codes "too many segments"
 text_of status.LineTooLong = codes "line too long"
@@ -127,9 +130,9 @@ unfoldable pub in_clear_line : List ℕ
 in_clear_line = codes "tinkey: this is a keyset in clear: leave --master out\n"
 
 -- what stands behind the line: where there was no word, the list of the commands; where one was at fault, a
--- second line that tells why; where no key opens a text, one that tells under which it was sealed; and where a
--- keyset in clear stands for an encrypted one, or the other way round, one that says so; some other statuses have a
--- line of advice
+-- second line that tells why; where no key opens a text, one that tells under which it was sealed; where a
+-- keyset in clear stands for an encrypted one, or the other way round, one that says so; and where a keyset is
+-- missing or can't be read, one that tells which option gives it; some other statuses have a line of advice
 unfoldable pub behind_line : Status → List ℕ
 behind_line status.NoWords = help_text topics.Commands
 behind_line (status.Usage misuse) = misfit_line misuse.why
@@ -137,6 +140,11 @@ behind_line (status.OpenFailed what sealer) = sealer_line what sealer
 behind_line (status.ProtoLocked at) = locked_line
 behind_line (status.KeysetLocked fault) = locked_line
 behind_line status.KeysetInClear = in_clear_line
+behind_line (status.InMissing from) = missing_line from
+behind_line (status.NotJson from begins) = not_json_line from begins
+behind_line (status.BadProto at from begins) = not_proto_line from begins
+behind_line (status.Shape path from) = file_line from
+behind_line (status.WrappedMember from) = file_line from
 behind_line other = advice other
 
 -- these bytes were written, or the first of them where the count of faults rose

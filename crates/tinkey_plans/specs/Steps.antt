@@ -23,6 +23,10 @@ use Rattle.tinkey_cmds.specs.declared.command.CmdFault.{CmdFault}
 use Rattle.tinkey_session.specs.Serving.{edit_named, no_template, or_refused}
 use Rattle.tinkey_session.specs.declared.reply.Refusal.{Refusal as Why}
 use Rattle.tinkey_session.specs.declared.reply.Refusal.TheVariants as refused
+use Rattle.tinkey_plans.specs.Origins.{begins_of}
+use Rattle.tinkey_plans.specs.declared.origin.Begins.{Begins}
+use Rattle.tinkey_plans.specs.declared.origin.Origin.{Origin}
+use Rattle.tinkey_plans.specs.declared.origin.Origin.TheVariants as origins
 use Rattle.tinkey_plans.specs.declared.status.Status.{Status}
 use Rattle.tinkey_plans.specs.declared.status.Status.TheVariants as status
 use Rattle.tinkey_plans.specs.Ends.{World, Ends}
@@ -44,17 +48,19 @@ input_limit = 16777216
 abbrev pub sealed_limit : ℕ
 sealed_limit = 16778240
 
--- The status of a keyset with a field that can't be cut or read, or with this fault. One that is an encrypted
--- keyset is told as that, too.
-abbrev pub wire_status : (locked : Bool) → (at : ℕ) → Status
-wire_status locked at = if locked then status.ProtoLocked at else status.BadProto at
+-- The status of a keyset from this place that begins so, with a field that can't be cut or read, or with this
+-- fault. One that is an encrypted keyset is told as that, too.
+abbrev pub wire_status : Origin → Begins → (locked : Bool) → (at : ℕ) → Status
+wire_status from begins locked at =
+    if locked then status.ProtoLocked at else status.BadProto at from begins
 
 abbrev pub fault_status : (locked : Bool) → KeysetFault → Status
 fault_status locked fault = if locked then status.KeysetLocked fault else status.Keyset fault
 
 -- they are the answer
-abbrev pub ends_at : (locked : Bool) → (at : ℕ) → Plan
-ends_at locked at = if locked then ends (status.ProtoLocked at) tt else ends (status.BadProto at) tt
+abbrev pub ends_at : Origin → Begins → (locked : Bool) → (at : ℕ) → Plan
+ends_at from begins locked at =
+    if locked then ends (status.ProtoLocked at) tt else ends (status.BadProto at from begins) tt
 
 abbrev pub ends_faulty : (locked : Bool) → KeysetFault → Plan
 ends_faulty locked fault =
@@ -68,16 +74,17 @@ OrStarved s result = (result ≡ s) ⊎ (result ≡ status.NoMemory)
 
 -- The status of a keyset that can't be read, and of want of memory. Where all of its keys are read, it takes an
 -- info to tell it from a keyset in clear.
-abbrev pub refusal_of : (locked : (informed : Bool) → Bool) → ReadError → Status
-refusal_of locked (errors.Wire wire) = wire_status (locked false) wire.at
-refusal_of locked (errors.Fault fault) = fault_status (locked true) fault
-refusal_of locked errors.NoMemory = status.NoMemory
+abbrev pub refusal_of : Origin → Begins → (locked : (informed : Bool) → Bool) → ReadError → Status
+refusal_of from begins locked (errors.Wire wire) = wire_status from begins (locked false) wire.at
+refusal_of from begins locked (errors.Fault fault) = fault_status (locked true) fault
+refusal_of from begins locked errors.NoMemory = status.NoMemory
 
 -- the keyset goes on, or its refusal is the answer
-abbrev pub with_keyset : (locked : (informed : Bool) → Bool) → Result Keys Refusal → (Keys → Plan) → Plan
-with_keyset locked (Err (Wire at)) next = ends_at (locked false) at
-with_keyset locked (Err (Fault fault)) next = ends_faulty (locked true) fault
-with_keyset locked (Ok keys) next = next keys
+abbrev pub with_keyset : Origin → Begins → (locked : (informed : Bool) → Bool) → Result Keys Refusal
+    → (Keys → Plan) → Plan
+with_keyset from begins locked (Err (Wire at)) next = ends_at from begins (locked false) at
+with_keyset from begins locked (Err (Fault fault)) next = ends_faulty (locked true) fault
+with_keyset from begins locked (Ok keys) next = next keys
 
 -- ---- JSON
 
@@ -87,56 +94,67 @@ has_no_key keyset_faults.Empty = true
 has_no_key _ = false
 
 -- the status of a keyset that can't be read as JSON, and of want of memory
-abbrev pub json_refusal_of : (locked : Bool) → JsonError → Status
-json_refusal_of locked json_errors.NotJson = status.NotJson
-json_refusal_of locked (json_errors.Shape path) = status.Shape path
-json_refusal_of locked (json_errors.Fault fault) = fault_status (locked && has_no_key fault) fault
-json_refusal_of locked json_errors.NoMemory = status.NoMemory
+abbrev pub json_refusal_of : Origin → Begins → (locked : Bool) → JsonError → Status
+json_refusal_of from begins locked json_errors.NotJson = status.NotJson from begins
+json_refusal_of from begins locked (json_errors.Shape path) = status.Shape path from
+json_refusal_of from begins locked (json_errors.Fault fault) =
+    fault_status (locked && has_no_key fault) fault
+json_refusal_of from begins locked json_errors.NoMemory = status.NoMemory
 
 -- The keyset goes on, or what is wrong with its JSON is the answer. One that has no key because it is encrypted
 -- is told as that.
-abbrev pub with_json : (locked : Bool) → Result Keys Json.Refusal → (Keys → Plan) → Plan
-with_json locked (Err Json.NotJson) next = ends status.NotJson tt
-with_json locked (Err (Json.Shape path)) next = ends (status.Shape path) tt
-with_json locked (Err (Json.Fault fault)) next = ends_faulty (locked && has_no_key fault) fault
-with_json locked (Ok keys) next = next keys
+abbrev pub with_json : Origin → Begins → (locked : Bool) → Result Keys Json.Refusal → (Keys → Plan) → Plan
+with_json from begins locked (Err Json.NotJson) next = ends (status.NotJson from begins) tt
+with_json from begins locked (Err (Json.Shape path)) next = ends (status.Shape path from) tt
+with_json from begins locked (Err (Json.Fault fault)) next = ends_faulty (locked && has_no_key fault) fault
+with_json from begins locked (Ok keys) next = next keys
 
 -- ---- a keyset in either form
 
--- the keyset of these bytes
-abbrev pub keyset_in : Format → List ℕ → (Keys → Plan) → Plan
-keyset_in formats.Json bytes next = allocates (with_json (is_wrapped_json bytes) (reads_json bytes) next)
-keyset_in formats.Binary bytes next =
-    allocates (with_keyset (is_wrapped_binary bytes) (reads_binary bytes) next)
+-- the keyset of these bytes, which come from this place
+abbrev pub keyset_in : Origin → Format → List ℕ → (Keys → Plan) → Plan
+keyset_in from formats.Json bytes next =
+    allocates (with_json from (begins_of bytes) (is_wrapped_json bytes) (reads_json bytes) next)
+keyset_in from formats.Binary bytes next =
+    allocates (with_keyset from (begins_of bytes) (is_wrapped_binary bytes) (reads_binary bytes) next)
 
--- the bytes of a keyset in the file of this name, within a limit
-abbrev pub loads_bytes : (limit : ℕ) → (name : List ℕ) → (List ℕ → Plan) → Plan
-loads_bytes limit name next = loads name limit status.InMissing status.KeysetTooLong tt tt next
+-- the bytes of a keyset in the file of this name, which this option gives, within a limit
+abbrev pub loads_bytes : Origin → (limit : ℕ) → (name : List ℕ) → (List ℕ → Plan) → Plan
+loads_bytes from limit name next =
+    loads name limit (status.InMissing from) status.KeysetTooLong tt tt next
 
 -- those that the whole input is
 abbrev pub reads_bytes : (limit : ℕ) → (List ℕ → Plan) → Plan
 reads_bytes limit next = reads_all limit status.KeysetTooLong tt next
 
 -- those in a file, or where none is named, those that the whole input is
-abbrev pub takes_bytes : (limit : ℕ) → (file : Option (List ℕ)) → (List ℕ → Plan) → Plan
-takes_bytes limit (Some name) next = loads_bytes limit name next
-takes_bytes limit None next = reads_bytes limit next
+abbrev pub takes_bytes : Origin → (limit : ℕ) → (file : Option (List ℕ)) → (List ℕ → Plan) → Plan
+takes_bytes from limit (Some name) next = loads_bytes from limit name next
+takes_bytes from limit None next = reads_bytes limit next
 
--- the keyset in the file of this name
-abbrev pub loads_keyset : List ℕ → Format → (Keys → Plan) → Plan
-loads_keyset name form next = loads_bytes keyset_limit name (λ bytes. keyset_in form bytes next)
+-- where they come from: the file that this option gives, or standard input
+abbrev pub origin_of : Origin → (file : Option (List ℕ)) → Origin
+origin_of from (Some name) = from
+origin_of from None = origins.StandardInput
+
+-- the keyset in the file of this name, which this option gives
+abbrev pub loads_keyset : Origin → List ℕ → Format → (Keys → Plan) → Plan
+loads_keyset from name form next =
+    loads_bytes from keyset_limit name (λ bytes. keyset_in from form bytes next)
 
 -- the keyset that the whole input is
 abbrev pub reads_keyset : Format → (Keys → Plan) → Plan
-reads_keyset form next = reads_bytes keyset_limit (λ bytes. keyset_in form bytes next)
+reads_keyset form next =
+    reads_bytes keyset_limit (λ bytes. keyset_in origins.StandardInput form bytes next)
 
--- the keyset in a file, or where none is named, the one that the whole input is
-abbrev pub keyset_at : Option (List ℕ) → Format → (Keys → Plan) → Plan
-keyset_at file form next = takes_bytes keyset_limit file (λ bytes. keyset_in form bytes next)
+-- the keyset in the file that this option gives, or where none is named, the one that the whole input is
+abbrev pub keyset_at : Origin → Option (List ℕ) → Format → (Keys → Plan) → Plan
+keyset_at from file form next =
+    takes_bytes from keyset_limit file (λ bytes. keyset_in (origin_of from file) form bytes next)
 
--- the keyset that lies at this place
+-- the keyset that lies at this place, which --in gives
 abbrev pub takes_keyset : Place → (Keys → Plan) → Plan
-takes_keyset place next = keyset_at place.file place.form next
+takes_keyset place next = keyset_at origins.In place.file place.form next
 
 -- the whole input, within this limit
 abbrev pub reads_input : (limit : ℕ) → (List ℕ → Plan) → Plan

@@ -1,6 +1,6 @@
 -- Keysets sealed under a master, as steps of plans. What a wrapped text is, and what one gives, is said apart from
 -- plans, in Wrapped and Unwrapped of seal_wrap.
-use Rattle.std.specs.Prelude.{ℕ, Bool, true, false, List, Option, Some, None, Result, Ok, Err, if◌then◌else◌}
+use Rattle.std.specs.Prelude.{ℕ, Bool, true, false, List, Option, Result, Ok, Err, if◌then◌else◌}
 use Rattle.std.specs.Option.{option_map}
 use Rattle.std.specs.Result.{is_ok}
 use Rattle.key_msgs.specs.declared.primitive.Primitive.TheVariants.{Aead}
@@ -14,6 +14,11 @@ use Rattle.seal_wrap.specs.declared.unwrapping.UnwrapFault.{UnwrapFault}
 use Rattle.seal_wrap.specs.declared.unwrapping.UnwrapFault.TheVariants as faults
 use Rattle.tinkey_cmds.specs.Draws.{Draw, Drawn}
 use Rattle.tinkey_plans.specs.Sealers.{keyset_sealer_of}
+use Rattle.tinkey_plans.specs.Origins.{begins_of}
+use Rattle.tinkey_plans.specs.declared.origin.Begins.{Begins}
+use Rattle.tinkey_plans.specs.declared.origin.Begins.TheVariants as begun
+use Rattle.tinkey_plans.specs.declared.origin.Origin.{Origin}
+use Rattle.tinkey_plans.specs.declared.origin.Origin.TheVariants as origins
 use Rattle.tinkey_plans.specs.declared.sealer.Sealer.{Sealer}
 use Rattle.tinkey_plans.specs.declared.sealer.Unopened.TheVariants as unopened
 use Rattle.tinkey_plans.specs.declared.status.Status.{Status}
@@ -33,10 +38,11 @@ abbrev pub is_json : Format → Bool
 is_json formats.Json = true
 is_json formats.Binary = false
 
--- the keyset in the file of this name, each ENABLED record of which can serve as an AEAD
-abbrev pub loads_master : Table → (name : List ℕ) → Format → (Keys → Plan) → Plan
-loads_master table name form next =
-    loads_keyset name form (λ master. handles table Aead master (λ fit. next master))
+-- the keyset in the file of this name, which this option gives, and each ENABLED record of which can serve as
+-- an AEAD
+abbrev pub loads_master : Origin → Table → (name : List ℕ) → Format → (Keys → Plan) → Plan
+loads_master from table name form next =
+    loads_keyset from name form (λ master. handles table Aead master (λ fit. next master))
 
 -- ---- wrapping
 
@@ -57,9 +63,9 @@ makes_wrapped keys master table form next =
 
 -- ---- unwrapping
 
--- the wrapped text in a file, or where none is named, the whole input
+-- the wrapped text in the file that --in gives, or where none is named, the whole input
 abbrev pub takes_wrapped : (file : Option (List ℕ)) → (List ℕ → Plan) → Plan
-takes_wrapped file next = takes_bytes wrapped_limit file next
+takes_wrapped file next = takes_bytes origins.In wrapped_limit file next
 
 -- the bytes are a keyset in clear, in this form
 abbrev pub is_keyset : Format → List ℕ → Bool
@@ -81,29 +87,32 @@ abbrev pub ends_unopened : (clear : Bool) → Sealer → Plan
 ends_unopened clear sealer =
     if clear then ends status.KeysetInClear tt else ends (status.OpenFailed unopened.Keyset sealer) tt
 
--- the keyset goes on, or why the text gives none is the answer. A place in the keyset inside is told as
--- one in the text around it is.
-abbrev pub with_unwrapped : (clear : Bool) → Sealer → Result Keys Refusal → (Keys → Plan) → Plan
-with_unwrapped clear sealer (Err (OuterWire at)) next = ends (status.BadProto at) tt
-with_unwrapped clear sealer (Err NotJson) next = ends status.NotJson tt
-with_unwrapped clear sealer (Err Member) next = ends status.WrappedMember tt
-with_unwrapped clear sealer (Err NotOpened) next = ends_unopened clear sealer
-with_unwrapped clear sealer (Err (InnerWire at)) next = ends (status.BadProto at) tt
-with_unwrapped clear sealer (Err (Fault fault)) next = ends (status.Keyset fault) tt
-with_unwrapped clear sealer (Ok keys) next = next keys
+-- The keyset goes on, or why the text gives none is the answer: of a text that begins so, from this place. A
+-- place in the keyset inside is told as one in the text around it is, but how the text begins says nothing of it.
+abbrev pub with_unwrapped : Origin → Begins → (clear : Bool) → Sealer → Result Keys Refusal
+    → (Keys → Plan) → Plan
+with_unwrapped from begins clear sealer (Err (OuterWire at)) next =
+    ends (status.BadProto at from begins) tt
+with_unwrapped from begins clear sealer (Err NotJson) next = ends (status.NotJson from begins) tt
+with_unwrapped from begins clear sealer (Err Member) next = ends (status.WrappedMember from) tt
+with_unwrapped from begins clear sealer (Err NotOpened) next = ends_unopened clear sealer
+with_unwrapped from begins clear sealer (Err (InnerWire at)) next =
+    ends (status.BadProto at from begun.Otherwise) tt
+with_unwrapped from begins clear sealer (Err (Fault fault)) next = ends (status.Keyset fault) tt
+with_unwrapped from begins clear sealer (Ok keys) next = next keys
 
 -- the same statuses, of the code's faults
-abbrev pub unwrap_refusal : (clear : Bool) → Sealer → UnwrapFault → Status
-unwrap_refusal clear sealer (faults.OuterWire at) = status.BadProto at
-unwrap_refusal clear sealer faults.NotJson = status.NotJson
-unwrap_refusal clear sealer faults.Member = status.WrappedMember
-unwrap_refusal clear sealer faults.NotOpened = unopened_status clear sealer
-unwrap_refusal clear sealer (faults.InnerWire at) = status.BadProto at
-unwrap_refusal clear sealer (faults.Fault fault) = status.Keyset fault
-unwrap_refusal clear sealer faults.NoMemory = status.NoMemory
+abbrev pub unwrap_refusal : Origin → Begins → (clear : Bool) → Sealer → UnwrapFault → Status
+unwrap_refusal from begins clear sealer (faults.OuterWire at) = status.BadProto at from begins
+unwrap_refusal from begins clear sealer faults.NotJson = status.NotJson from begins
+unwrap_refusal from begins clear sealer faults.Member = status.WrappedMember from
+unwrap_refusal from begins clear sealer faults.NotOpened = unopened_status clear sealer
+unwrap_refusal from begins clear sealer (faults.InnerWire at) = status.BadProto at from begun.Otherwise
+unwrap_refusal from begins clear sealer (faults.Fault fault) = status.Keyset fault
+unwrap_refusal from begins clear sealer faults.NoMemory = status.NoMemory
 
--- the keyset that a wrapped text gives under its master
-abbrev pub unwraps : (master : Keys) → Table → Format → (text : List ℕ) → (Keys → Plan) → Plan
-unwraps master table form text next =
-    allocates (with_unwrapped (is_keyset form text) (keyset_sealer form master text)
+-- the keyset that a wrapped text from this place gives under its master
+abbrev pub unwraps : Origin → (master : Keys) → Table → Format → (text : List ℕ) → (Keys → Plan) → Plan
+unwraps from master table form text next =
+    allocates (with_unwrapped from (begins_of text) (is_keyset form text) (keyset_sealer form master text)
     (unwrap_of master table text (is_json form)) next)

@@ -41,6 +41,7 @@ pub(crate) fn advice(status: Status) -> &'static str
         Status::TooManyLines => {
             "tinkey: a session has at most 100000 lines; what it did to the keyset is lost\n"
         }
+        Status::StreamMissing => "tinkey: the file that --file gives is not there\n",
         Status::OutExists => "tinkey: no file is ever replaced: give --out another name\n",
         _ => "",
     }

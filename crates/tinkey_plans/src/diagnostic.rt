@@ -9,6 +9,7 @@ ghost use Rattle.tinkey_session.specs.declared.reply.Refusal.TheVariants as refu
 
 use crate::advice::advice;
 use crate::misfit::misfit_line;
+use crate::origin::{file_line, missing_line, not_json_line, not_proto_line};
 use crate::sealer::sealer_line;
 use crate::{Status, help_text};
 use key_msgs::Rule;
@@ -21,8 +22,8 @@ use tinkey_words::Topic;
 
 /// Writes the line of a status, and what follows it: the list of the commands if there was no word,
 /// why a word is at fault, under which key a text that doesn't open was sealed, that a keyset is
-/// in clear or encrypted but should be the other, or what else may help. A fault of `diag` changes
-/// no status.
+/// in clear or encrypted but should be the other, which option gives a keyset that is missing or
+/// can't be read, or what else may help. A fault of `diag` changes no status.
 pub fn report<G: Sink>(diag: &mut G, status: Status)
     ensures { Reports status (G.state diag.old) (G.state diag.new) }
 {
@@ -47,6 +48,13 @@ fn write_behind<G: Sink>(diag: &mut G, status: Status)
             write_text(diag, locked_line().as_slice());
         }
         Status::KeysetInClear => write_text(diag, in_clear_line().as_slice()),
+        Status::InMissing(from) => write_text(diag, missing_line(from).as_slice()),
+        Status::NotJson(from, begins) => write_text(diag, not_json_line(from, begins).as_slice()),
+        Status::BadProto(_, from, begins) => {
+            write_text(diag, not_proto_line(from, begins).as_slice());
+        }
+        Status::Shape(_, from) => write_text(diag, file_line(from).as_slice()),
+        Status::WrappedMember(from) => write_text(diag, file_line(from).as_slice()),
         _ => write_text(diag, advice(status).as_bytes()),
     }
 }
@@ -124,13 +132,13 @@ fn push_text(line: &mut ShortText, status: Status)
             line.push("usage: word ");
             line.push_number(misuse.place);
         }
-        Status::BadProto(at) | Status::ProtoLocked(at) => push_place(line, at),
-        Status::NotJson => line.push("not JSON"),
-        Status::Shape(path) => push_path(line, path),
-        Status::WrappedMember => line.push("bad JSON member encryptedKeyset"),
+        Status::BadProto(at, _, _) | Status::ProtoLocked(at) => push_place(line, at),
+        Status::NotJson(_, _) => line.push("not JSON"),
+        Status::Shape(path, _) => push_path(line, path),
+        Status::WrappedMember(_) => line.push("bad JSON member encryptedKeyset"),
         Status::Keyset(fault) | Status::KeysetLocked(fault) => push_fault(line, fault),
         Status::KeysetTooLong => line.push("keyset too long"),
-        Status::InMissing => line.push("input file missing"),
+        Status::InMissing(_) | Status::StreamMissing => line.push("input file missing"),
         Status::InputTooLong => line.push("input too long"),
         Status::TooManySegments => line.push("too many segments"),
         Status::LineTooLong => line.push("line too long"),

@@ -356,17 +356,19 @@ A command that fails prints a line on standard error and ends with an exit code.
      piped to wc -c, shows how long it is.
 
 3  bad protobuf at byte {at}
-     The keyset isn't one in the binary form. If it is JSON, give no form, or json. If it is
-     an encrypted keyset, give --master; a second line says so. Otherwise it is damaged from
-     about that byte on.
+     The keyset isn't one in the binary form. A second line says which file it is. If it is
+     JSON, give no form, or json; if it is an encrypted keyset, give --master: the second
+     line says so, too. Otherwise it is damaged from about that byte on.
 
 3  not JSON
-     The keyset isn't JSON: it is empty, cut or damaged, or in the binary form. If it is in
-     that form, say so: --in-format binary, --keyset-format binary or --master-format
-     binary. Without --in, standard input was read.
+     The keyset isn't JSON: it is empty, cut or damaged, or in the binary form. A second
+     line says which file it is, and if it begins in that form, which option to add:
+     --in-format binary, --keyset-format binary, --master-format binary or
+     --new-master-format binary. Without --in, standard input was read.
 
 3  bad JSON member {member}
-     The JSON isn't a keyset: this member has the wrong form.
+     The JSON isn't a keyset: this member has the wrong form. A second line says which file
+     it is.
 
 3  bad JSON member {member} of key {key}
      The same, for a key. Keys count from 0.
@@ -428,7 +430,8 @@ A command that fails prints a line on standard error and ends with an exit code.
      each.
 
 4  input file missing
-     There is no file with the name given by --in, --keyset, --master or --file.
+     There is no file with the name given by --in, --keyset, --master, --new-master or
+     --file; a second line says by which of them.
 
 4  key not found
      No key of the keyset has this id: list-keyset shows the ids.

@@ -13,10 +13,12 @@ mod diagnostic;
 mod help;
 pub mod laws;
 mod misfit;
+mod origin;
 mod sealer;
 mod status;
 
 pub use diagnostic::{report, starve};
 pub use help::{help_text, version_text};
+pub use origin::{Begins, Origin, begins_of};
 pub use sealer::{Sealer, Unopened};
 pub use status::Status;

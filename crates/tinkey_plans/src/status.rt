@@ -2,7 +2,7 @@
 
 ghost use Rattle.std.specs.Prelude.{◌≡◌};
 
-use crate::{Sealer, Unopened};
+use crate::{Begins, Origin, Sealer, Unopened};
 use key_msgs::Rule;
 use keyset_json::Path;
 use keyset_model::KeysetFault;
@@ -38,24 +38,28 @@ pub enum Status {
     NoWords,
     /// A word is at fault, or missing if its place is the number of words.
     Usage(Misuse),
-    /// The field whose tag is at this place can't be cut or read.
-    BadProto(usize),
+    /// The field whose tag is at this place can't be cut or read. What was read comes from there, and
+    /// begins so; of a place inside an encrypted keyset, nothing is said of how the text around it begins.
+    BadProto(usize, Origin, Begins),
     /// The same for a keyset whose bytes are an encrypted keyset.
     ProtoLocked(usize),
-    /// The keyset isn't JSON.
-    NotJson,
-    /// This member of the keyset is the first that isn't of its form.
-    Shape(Path),
-    /// The JSON of a wrapped keyset isn't an object, or its encrypted bytes aren't of their form.
-    WrappedMember,
+    /// The keyset from there, which begins so, isn't JSON.
+    NotJson(Origin, Begins),
+    /// This member of the keyset from there is the first that isn't of its form.
+    Shape(Path, Origin),
+    /// The JSON of the wrapped keyset from there isn't an object, or its encrypted bytes aren't of
+    /// their form.
+    WrappedMember(Origin),
     /// The keyset has this fault.
     Keyset(KeysetFault),
     /// The keyset has this fault, and its text is an encrypted keyset.
     KeysetLocked(KeysetFault),
     /// The keyset has more than 1,048,576 bytes, or a wrapped one more than 4,194,304.
     KeysetTooLong,
-    /// The file of the keyset, or of the stream, is missing.
-    InMissing,
+    /// The file of the keyset that this option gives is missing.
+    InMissing(Origin),
+    /// The file of the stream is missing.
+    StreamMissing,
     /// The input has more than 16,777,216 bytes, or 16,778,240 where it is to be opened.
     InputTooLong,
     /// A byte follows 2^32 segments of the stream.
@@ -109,17 +113,20 @@ impl Status {
             )
             | Status::DekTemplate
             | Status::PastEnd => 2,
-            Status::BadProto(_)
+            Status::BadProto(_, _, _)
             | Status::ProtoLocked(_)
-            | Status::NotJson
-            | Status::Shape(_)
-            | Status::WrappedMember
+            | Status::NotJson(_, _)
+            | Status::Shape(_, _)
+            | Status::WrappedMember(_)
             | Status::Keyset(_)
             | Status::KeysetLocked(_)
             | Status::Refused(Refusal::NoManager(_) | Refusal::BadKey(_, _) | Refusal::NotRaw(_))
             | Status::NoDekManager
             | Status::DekRefused(_) => 3,
-            Status::InMissing | Status::Refused(Refusal::Command(_)) | Status::OutExists => 4,
+            Status::InMissing(_)
+            | Status::StreamMissing
+            | Status::Refused(Refusal::Command(_))
+            | Status::OutExists => 4,
             Status::ReadFault | Status::WriteFault | Status::EntropyFault | Status::StoreFault => 5,
             Status::KeysetTooLong
             | Status::InputTooLong

@@ -34,13 +34,14 @@ use Rattle.tinkey_session.specs.declared.reply.Reply.TheVariants.{Gives}
 use Rattle.wrapped_prims.specs.Answers.{dseal_answer, open_answer, seal_answer, tag_answer}
 use Rattle.wrapped_prims.specs.Fitness.{unfit}
 use Rattle.wrapped_prims.specs.Laws.{HasKey, IsKeyset}
+use Rattle.tinkey_plans.specs.declared.origin.Origin.TheVariants as origins
 use Rattle.tinkey_plans.proofs.StreamSoundLemmas.{sound_key}
 use Rattle.tinkey_plans.proofs.EnvelopeLemmas.{row_known}
 use Rattle.tinkey_plans.specs.Envelopes.{envelope_limit, envelopes}
 use Rattle.tinkey_plans.specs.Laws.{FitKeysetsAnswer}
 use Rattle.tinkey_plans.specs.Plan.{Answer, Plan, Told, answer, writes}
 use Rattle.tinkey_plans.specs.Ranging.{opens_stretch}
-use Rattle.tinkey_plans.specs.Steps.{input_limit, puts, puts_keyset, sealed_limit}
+use Rattle.tinkey_plans.specs.Steps.{input_limit, origin_of, puts, puts_keyset, sealed_limit}
 use Rattle.tinkey_plans.specs.Streaming.{begins_file, loads_stream_keys, opens_stream, seals_stream}
 use Rattle.tinkey_plans.specs.Handles.{handles, unless_unfit}
 use Rattle.tinkey_plans.specs.Using.{limit_for}
@@ -389,11 +390,11 @@ pub unwraps_anywhere : FaultlessKeysets → BinaryBack → JsonBack → ReadIsSt
 unwraps_anywhere law binary json stored back master other old new r prefix holds_master is_master primary prefixed wrap before text keys x random holds is serves same told name in' out lies in_form read free short =
     let w = wraps_done wrap master before text old keys x is_master is in
     let gave' = unwrapped law binary json stored back wrap master before text old new keys r prefix x is_master is holds_master holds random primary prefixed same in
-    let l = load_reached name other.form other.bytes new (λ m. handles standard_table Aead m (λ fit. opens_plan in' out m)) told lies serves.read serves.within in
+    let l = load_reached origins.Master name other.form other.bytes new (λ m. handles standard_table Aead m (λ fit. opens_plan in' out m)) told lies serves.read serves.within in
     let f : answer (unless_unfit (unfit new Aead standard_table) (opens_plan in' out new)) told ≡ answer (opens_plan in' out new) told = ap (λ u. answer (unless_unfit u (opens_plan in' out new)) told) serves.fit in
-    let t = text_reached in'.file text.bytes (λ text. unwraps new standard_table in'.form text (puts_keyset out)) told read w.short in
+    let t = text_reached origins.In in'.file text.bytes (λ text. unwraps (origin_of origins.In in'.file) new standard_table in'.form text (puts_keyset out)) told read w.short in
     let behind' = behind in'.file told in
-    let g = given_keyset new in'.form text.bytes keys (puts_keyset out) behind' (ap (λ f. unwrap_of new standard_table text.bytes (is_json f)) in_form ∙ gave') in
+    let g = given_keyset (origin_of origins.In in'.file) new in'.form text.bytes keys (puts_keyset out) behind' (ap (λ f. unwrap_of new standard_table text.bytes (is_json f)) in_form ∙ gave') in
     let whole = l ∙ f ∙ t ∙ g in
     let done = put_reached out keys behind' (form_within out.form keys w.binary_within short) (subst (IsFree out.file) (sym (behind_files in'.file told)) free) in
     let p = put_done out keys behind' done in

@@ -36,7 +36,7 @@ stretched keys ad range out told done = by_file (map.get told.files range.file) 
     by_range stream (Err (stream_failed number)) holds is done = absurd (cc)
     by_range stream (Err past_end) holds is done = absurd (cc)
 
-    by_file : (found : Option (List ℕ)) → map.get told.files range.file ≡ found → IsDoneAnswer (range_answer found (stretch_for keys ad range) (refused told status.InMissing) (λ o. answer (with_stretch o (puts out)) told)) → Stretched keys ad range out told
+    by_file : (found : Option (List ℕ)) → map.get told.files range.file ≡ found → IsDoneAnswer (range_answer found (stretch_for keys ad range) (refused told status.StreamMissing) (λ o. answer (with_stretch o (puts out)) told)) → Stretched keys ad range out told
     by_file None holds done = absurd (cc)
     by_file (Some stream) holds done = by_range stream (stretch_in (stretch_for keys ad range) stream) holds refl done
 

@@ -4,6 +4,7 @@ use Rattle.std.specs.FinMap as map
 use Rattle.keyset_model.specs.Keyset.{Keys}
 use Rattle.managers.specs.Table.{Table}
 use Rattle.tinkey_session.specs.Talking.{Stop, Talk, goes, long_line, many_lines, passes, talk, wants}
+use Rattle.tinkey_plans.specs.declared.origin.Origin.TheVariants as origins
 use Rattle.tinkey_plans.specs.declared.status.Status.TheVariants as status
 use Rattle.tinkey_plans.specs.Commands.{command_plan}
 use Rattle.tinkey_plans.specs.Plan.{Answer, Plan, Told, answer, exchanges, look_answer, refused, talk_answer}
@@ -64,7 +65,7 @@ held table master keys out told done = by x.stop refl done
     by (passes many_lines) is done = absurd (cc)
 
 abbrev session_behind : Table → List ℕ → Format → Place → Option Keys → Plan
-session_behind table name form out master = takes_under table master (record { file = Some name; form = form }) (holds_session table master out)
+session_behind table name form out master = takes_under origins.Keyset table master (record { file = Some name; form = form }) (holds_session table master out)
 
 pub session_is : (table : Table) (lock : Lock) (name : List ℕ) (form : Format) (out : Place) (told : Told) → IsDoneAnswer (answer (command_plan table (session lock name form out)) told) → SessionGoes table lock name form out told
 session_is table lock name form out told is =
@@ -73,9 +74,9 @@ session_is table lock name form out told is =
     let master = o.0 in
     let opened = lock_reached table lock master (session_behind table name form out) told o.1 in
     let d : IsDoneAnswer (answer (session_behind table name form out master) told) = ap (λ (a : Answer). a.status) (sym opened) ∙ is in
-    let k = takes_there table master place (holds_session table master out) told d in
+    let k = takes_there origins.Keyset table master place (holds_session table master out) told d in
     let keys = k.0 in
-    let loaded = takes_reached table master place keys (holds_session table master out) told k.1 in
+    let loaded = takes_reached origins.Keyset table master place keys (holds_session table master out) told k.1 in
     let whole : IsDoneAnswer (answer (holds_session table master out keys) told) = ap (λ (a : Answer). a.status) (sym loaded) ∙ d in
     let free = free_done out.file (λ free. exchanges (talk table keys) (saves table master out)) told whole in
     let h = held table master keys out told (ap (λ (a : Answer). a.status) (sym free) ∙ whole) in
@@ -92,7 +93,7 @@ session_is table lock name form out told is =
 pub session_answers : (table : Table) (lock : Lock) (name : List ℕ) (form : Format) (out : Place) (told : Told) (x : SessionGoes table lock name form out told) → answer (command_plan table (session lock name form out)) told ≡ stands table x.master x.keys out told goes
 session_answers table lock name form out told x =
     lock_reached table lock x.master (session_behind table name form out) told x.opens
-    ∙ takes_reached table x.master (record { file = Some name; form = form }) x.keys (holds_session table x.master out) told x.lies
+    ∙ takes_reached origins.Keyset table x.master (record { file = Some name; form = form }) x.keys (holds_session table x.master out) told x.lies
     ∙ look_reached out.file (λ free. exchanges (talk table x.keys) (saves table x.master out)) told x.free
     ∙ ap (stands table x.master x.keys out told) x.goes_on
 

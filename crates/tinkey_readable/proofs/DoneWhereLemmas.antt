@@ -13,6 +13,7 @@ use Rattle.tinkey_session.proofs.Options.{no_truth}
 use Rattle.key_msgs.specs.declared.primitive.Primitive.TheVariants.{Aead}
 use Rattle.tinkey_session.specs.Serving.{edit_named, or_refused}
 use Rattle.wrapped_prims.specs.Answers.{Sealed, derive_answer, dopen_answer, open_answer, seal_answer, verify_answer}
+use Rattle.tinkey_plans.specs.declared.origin.Origin.TheVariants as origins
 use Rattle.tinkey_plans.specs.declared.status.Status.TheVariants as status
 use Rattle.tinkey_plans.specs.Commands.{command_plan}
 use Rattle.tinkey_plans.specs.Going.{FitKeysetsSeal}
@@ -46,7 +47,7 @@ makes_reached give next told drawn new gave is =
     ∙ ap (λ r. answer (with_made r next) (record told { random = drawn.left })) is
 
 abbrev edits_behind : Table → (in' out : Place) → Edit → Option Keys → Plan
-edits_behind table in' out edit master = takes_under table master in' (λ keys. makes_keyset (step keys edit) (puts_under table master out))
+edits_behind table in' out edit master = takes_under origins.In table master in' (λ keys. makes_keyset (step keys edit) (puts_under table master out))
 
 pub edit_goes : (table : Table) (lock : Lock) (asked : AskedEdit) (in' out : Place) (told : Told) → IsDoneAnswer (answer (command_plan table (edit_keyset lock asked in' out)) told) → EditGoes table lock asked in' out told
 edit_goes table lock asked in' out told done =
@@ -55,9 +56,9 @@ edit_goes table lock asked in' out told done =
     let o = lock_there table lock (edits_behind table in' out f.edit) told d1 in
     let opened = lock_reached table lock o.0 (edits_behind table in' out f.edit) told o.1 in
     let next : Keys → Plan = λ keys. makes_keyset (step keys f.edit) (puts_under table o.0 out) in
-    let d2 : IsDoneAnswer (answer (takes_under table o.0 in' next) told) = ap (λ (a : Answer). a.status) (sym opened) ∙ d1 in
-    let k = takes_there table o.0 in' next told d2 in
-    let t = takes_reached table o.0 in' k.0 next told k.1 in
+    let d2 : IsDoneAnswer (answer (takes_under origins.In table o.0 in' next) told) = ap (λ (a : Answer). a.status) (sym opened) ∙ d1 in
+    let k = takes_there origins.In table o.0 in' next told d2 in
+    let t = takes_reached origins.In table o.0 in' k.0 next told k.1 in
     let behind' = behind in'.file told in
     let m = made_done (step k.0 f.edit) (puts_under table o.0 out) behind' (ap (λ (a : Answer). a.status) (sym t) ∙ d2) in
     let left = record behind' { random = m.drawn.left } in
@@ -80,7 +81,7 @@ edit_answers table lock asked in' out told x =
     let a = x.accepted in
     let f = edit_reached asked a.edit (λ e. opens_lock table lock (edits_behind table in' out e)) told a.is in
     let o = lock_reached table lock x.master (edits_behind table in' out a.edit) told x.opens in
-    let t = takes_reached table x.master in' x.old (λ keys. makes_keyset (step keys a.edit) (puts_under table x.master out)) told x.lies in
+    let t = takes_reached origins.In table x.master in' x.old (λ keys. makes_keyset (step keys a.edit) (puts_under table x.master out)) told x.lies in
     f ∙ o ∙ t ∙ makes_reached (step x.old a.edit) (puts_under table x.master out) (behind in'.file told) a.stepped x.new (ap (step x.old a.edit) (behind_random in'.file told) ∙ a.steps) a.accepted
 
 edit_done : (table : Table) (lock : Lock) (asked : AskedEdit) (in' out : Place) (told : Told) → EditGoes table lock asked in' out told → IsDoneAnswer (answer (command_plan table (edit_keyset lock asked in' out)) told)
@@ -124,7 +125,7 @@ create_done table lock template out told x =
 
 -- another form or another master
 abbrev converts_behind : Table → (in' out : Place) → (taken put : Option Keys) → Plan
-converts_behind table in' out taken put = takes_under table taken in' (puts_under table put out)
+converts_behind table in' out taken put = takes_under origins.In table taken in' (puts_under table put out)
 
 pub convert_goes : (table : Table) (lock : Lock) (new : NewLock) (in' out : Place) (told : Told) → IsDoneAnswer (answer (command_plan table (convert_keyset lock new in' out)) told) → ConvertGoes table lock new in' out told
 convert_goes table lock new in' out told done =
@@ -135,9 +136,9 @@ convert_goes table lock new in' out told done =
     let n = new_lock_there table new o.0 (converts_behind table in' out o.0) told d1 in
     let relocked = new_lock_reached table new o.0 n.0 (converts_behind table in' out o.0) told n.1 in
     let d2 : IsDoneAnswer (answer (converts_behind table in' out o.0 n.0) told) = ap (λ (a : Answer). a.status) (sym relocked) ∙ d1 in
-    let k = takes_there table o.0 in' (puts_under table n.0 out) told d2 in
+    let k = takes_there origins.In table o.0 in' (puts_under table n.0 out) told d2 in
     let behind' = behind in'.file told in
-    let put = put_there table n.0 out k.0 behind' (ap (λ (a : Answer). a.status) (sym (takes_reached table o.0 in' k.0 (puts_under table n.0 out) told k.1)) ∙ d2) in
+    let put = put_there table n.0 out k.0 behind' (ap (λ (a : Answer). a.status) (sym (takes_reached origins.In table o.0 in' k.0 (puts_under table n.0 out) told k.1)) ∙ d2) in
     record {
       taken = o.0;
       opens = o.1;
@@ -154,7 +155,7 @@ pub convert_answers : (table : Table) (lock : Lock) (new : NewLock) (in' out : P
 convert_answers table lock new in' out told x =
     lock_reached table lock x.taken (λ taken. opens_new_lock table new taken (converts_behind table in' out taken)) told x.opens
     ∙ new_lock_reached table new x.taken x.put (converts_behind table in' out x.taken) told x.opens_new
-    ∙ takes_reached table x.taken in' x.keys (puts_under table x.put out) told x.lies
+    ∙ takes_reached origins.In table x.taken in' x.keys (puts_under table x.put out) told x.lies
 
 convert_done : (table : Table) (lock : Lock) (new : NewLock) (in' out : Place) (told : Told) → ConvertGoes table lock new in' out told → IsDoneAnswer (answer (command_plan table (convert_keyset lock new in' out)) told)
 convert_done table lock new in' out told x =
@@ -169,7 +170,7 @@ edits_done = record {
   edited = λ table lock asked in' out told. (edit_goes table lock asked in' out told, edit_done table lock asked in' out told);
   created = λ table lock template out told. (create_goes table lock template out told, create_done table lock template out told);
   converted = λ table lock new in' out told. (convert_goes table lock new in' out told, convert_done table lock new in' out told);
-  listed = λ table lock in' told. (behind_there table lock in' lists told, λ x. ap (λ (a : Answer). a.status) (behind_reached table lock in' x.0 lists told x.1));
+  listed = λ table lock in' told. (behind_there origins.In table lock in' lists told, λ x. ap (λ (a : Answer). a.status) (behind_reached origins.In table lock in' x.0 lists told x.1));
 }
 
 -- ---- work on a whole input

@@ -32,6 +32,9 @@ use Rattle.tinkey_session.specs.declared.talk.TalkFault.TheVariants as talk_faul
 use Rattle.tinkey_cmds.specs.declared.command.CmdFault.{CmdFault}
 use Rattle.wrapped_prims.specs.Fitness.{Unfit, unfit}
 use Rattle.wrapped_prims.specs.Laws.{IsKeyset}
+use Rattle.tinkey_plans.specs.Origins.{begins_of}
+use Rattle.tinkey_plans.specs.declared.origin.Origin.{Origin}
+use Rattle.tinkey_plans.specs.declared.origin.Origin.TheVariants as origins
 use Rattle.tinkey_plans.specs.declared.status.Status.{Status}
 use Rattle.seal_wrap.specs.Unwrapped.{is_wrapped_binary, is_wrapped_json}
 use Rattle.tinkey_plans.specs.declared.status.Status.TheVariants as status
@@ -357,17 +360,17 @@ session_ends readable law table master out keys told old s new is tells run = by
 -- ---- the keyset before it
 
 -- a keyset that is read goes on, or memory was wanting
-keyset_ends : (form : Format) (bytes : List ℕ) (keys : Keys) (next : Keys → Plan) (old : World) (s : Status) (new : World) → read_in form bytes ≡ Some keys → Ends (keyset_in form bytes next) old s new → Ends (next keys) old s new ⊎ ((s ≡ status.NoMemory) × (old ≡ new))
-keyset_ends formats.Json bytes keys next old s new read (inl run) = inl (subst (λ r. Ends (with_json (is_wrapped_json bytes) r next) old s new) (ok_of (reads_json bytes) keys read) run)
-keyset_ends formats.Json bytes keys next old s new read (inr starved) = inr starved
-keyset_ends formats.Binary bytes keys next old s new read (inl run) = inl (subst (λ r. Ends (with_keyset (is_wrapped_binary bytes) r next) old s new) (ok_of (reads_binary bytes) keys read) run)
-keyset_ends formats.Binary bytes keys next old s new read (inr starved) = inr starved
+keyset_ends : (from : Origin) (form : Format) (bytes : List ℕ) (keys : Keys) (next : Keys → Plan) (old : World) (s : Status) (new : World) → read_in form bytes ≡ Some keys → Ends (keyset_in from form bytes next) old s new → Ends (next keys) old s new ⊎ ((s ≡ status.NoMemory) × (old ≡ new))
+keyset_ends from formats.Json bytes keys next old s new read (inl run) = inl (subst (λ r. Ends (with_json from (begins_of bytes) (is_wrapped_json bytes) r next) old s new) (ok_of (reads_json bytes) keys read) run)
+keyset_ends from formats.Json bytes keys next old s new read (inr starved) = inr starved
+keyset_ends from formats.Binary bytes keys next old s new read (inl run) = inl (subst (λ r. Ends (with_keyset from (begins_of bytes) (is_wrapped_binary bytes) r next) old s new) (ok_of (reads_binary bytes) keys read) run)
+keyset_ends from formats.Binary bytes keys next old s new read (inr starved) = inr starved
 
 -- and so under a master
-under_ends : (table : Table) (master : Option Keys) (form : Format) (bytes : List ℕ) (keys : Keys) (next : Keys → Plan) (old : World) (s : Status) (new : World) → GivesKeyset table master form bytes keys → Ends (keyset_under table master form bytes next) old s new → Ends (next keys) old s new ⊎ ((s ≡ status.NoMemory) × (old ≡ new))
-under_ends table None form bytes keys next old s new gives run = keyset_ends form bytes keys next old s new gives run
-under_ends table (Some over) form bytes keys next old s new gives (inl run) = inl (subst (λ (r : Result Keys Refusal). Ends (with_unwrapped (is_keyset form bytes) (keyset_sealer form over bytes) r next) old s new) gives run)
-under_ends table (Some over) form bytes keys next old s new gives (inr starved) = inr starved
+under_ends : (from : Origin) (table : Table) (master : Option Keys) (form : Format) (bytes : List ℕ) (keys : Keys) (next : Keys → Plan) (old : World) (s : Status) (new : World) → GivesKeyset table master form bytes keys → Ends (keyset_under from table master form bytes next) old s new → Ends (next keys) old s new ⊎ ((s ≡ status.NoMemory) × (old ≡ new))
+under_ends from table None form bytes keys next old s new gives run = keyset_ends from form bytes keys next old s new gives run
+under_ends from table (Some over) form bytes keys next old s new gives (inl run) = inl (subst (λ (r : Result Keys Refusal). Ends (with_unwrapped from (begins_of bytes) (is_keyset form bytes) (keyset_sealer form over bytes) r next) old s new) gives run)
+under_ends from table (Some over) form bytes keys next old s new gives (inr starved) = inr starved
 
 file_told : (store : StoreState) (files : Files) (name bytes : List ℕ) → store.files ≡ Some files → Holds store name (Some bytes) → map.get files name ≡ Some bytes
 file_told store files name bytes told holds = let h : IfSome (Some files) (λ f. map.get f name ≡ Some bytes) = rw told at holds in h
@@ -381,13 +384,13 @@ abbrev none_written : (table : Table) (keys : Keys) (told : Told) (old : World) 
 none_written table keys told old s new undone other same = none_replied table keys told old s new undone other (took_same old.sink new.sink same)
 
 text_ends : TurnsAreReadable → TalkIsTurns → ReadKeysFit → (table : Table) (master : Option Keys) (name bytes : List ℕ) (form : Format) (out : Place) (keys : Keys) (told : Told) (old : World) (s : Status) (new : World) → Tells old told → map.get told.files name ≡ Some bytes → GivesKeyset table master form bytes keys
-    → Ends (takes_under table master (record { file = Some name; form = form }) (holds_session table master out)) old s new → HasReplies table keys told old s new
+    → Ends (takes_under origins.Keyset table master (record { file = Some name; form = form }) (holds_session table master out)) old s new → HasReplies table keys told old s new
 text_ends readable law fit table master name bytes form out keys told old s new tells there gives (loaded found store kept stood given within holds run) =
     let same : bytes ≡ found = same_Some _ _ (sym there ∙ file_told old.store told.files name found tells.files holds) in
     let mid : World = record old { store = store } in
     let mid_tells : Tells mid told = record { input = tells.input; files = sym kept.files ∙ tells.files; random = tells.random } in
     let is = given_is_keyset fit table master form bytes keys gives (subst (λ l. length l ≤ limit_under master) (sym same) within) in
-    by mid mid_tells is refl (under_ends table master form bytes keys (holds_session table master out) mid s new gives (subst (λ l. Ends (keyset_under table master form l (holds_session table master out)) mid s new) (sym same) run))
+    by mid mid_tells is refl (under_ends origins.Keyset table master form bytes keys (holds_session table master out) mid s new gives (subst (λ l. Ends (keyset_under origins.Keyset table master form l (holds_session table master out)) mid s new) (sym same) run))
   where
     by : (mid : World) → Tells mid told → IsKeyset keys → mid.sink ≡ old.sink → Ends (holds_session table master out keys) mid s new ⊎ ((s ≡ status.NoMemory) × (mid ≡ new)) → HasReplies table keys told old s new
     by mid tells is sink (inl run) =
@@ -414,7 +417,7 @@ lock_ends : TurnsAreReadable → TalkIsTurns → ReadKeysFit → (table : Table)
     → Ends (session_plan table (Some lock) name form out) old s new → HasReplies table keys told old s new
 lock_ends readable law fit table lock of_lock over name bytes form out keys told old s new tells lies read there gives (loaded found store kept stood given within holds run) =
     let same : of_lock ≡ found = same_Some _ _ (sym lies ∙ file_told old.store told.files lock.file found tells.files holds) in
-    by_keyset (keyset_ends lock.form of_lock over fits mid s new read (subst (λ l. Ends (keyset_in lock.form l fits) mid s new) (sym same) run))
+    by_keyset (keyset_ends origins.Master lock.form of_lock over fits mid s new read (subst (λ l. Ends (keyset_in origins.Master lock.form l fits) mid s new) (sym same) run))
   where
     mid : World
     mid = record old { store = store }
@@ -423,7 +426,7 @@ lock_ends readable law fit table lock of_lock over name bytes form out keys told
     mid_tells = record { input = tells.input; files = sym kept.files ∙ tells.files; random = tells.random }
 
     taken : Option Keys → Plan
-    taken master = takes_under table master (record { file = Some name; form = form }) (holds_session table master out)
+    taken master = takes_under origins.Keyset table master (record { file = Some name; form = form }) (holds_session table master out)
 
     fits : Keys → Plan
     fits m = handles table Aead m (λ fit. taken (Some m))

@@ -8,6 +8,7 @@ use Rattle.keyset_model.specs.Listing.{info_of, record_lines}
 use Rattle.keyset_model.specs.declared.record.Record.{Record}
 use Rattle.seal_wrap.specs.Info.{without_key, without_keys}
 use Rattle.tink_spec.specs.Outside.{SinkState}
+use Rattle.tinkey_plans.specs.declared.origin.Origin.TheVariants as origins
 use Rattle.tinkey_plans.specs.Plan.{Plan, writes}
 use Rattle.tinkey_plans.specs.Status.{Reports, behind_line, line_of, write_failed, wrote}
 use Rattle.tinkey_plans.specs.Steps.{works_out}
@@ -36,9 +37,9 @@ lists keys = works_out (info_of keys) writes
 
 pub listed_alike : ListedAlike
 listed_alike table lock behind' in' from told other one two lies there same =
-    ap (λ a. a.output) (behind_reached table lock in' one lists told lies)
+    ap (λ a. a.output) (behind_reached origins.In table lock in' one lists told lies)
     ∙ listing_hides_keys one two same
-    ∙ sym (ap (λ a. a.output) (behind_reached table behind' from two lists other there))
+    ∙ sym (ap (λ a. a.output) (behind_reached origins.In table behind' from two lists other there))
 
 reported : (s : Status) (old new : SinkState) (before : List ℕ) → old.written ≡ Some before → Reports s old new → TookOf (line_of s ++ behind_line s) old new before
 reported s old new before is (wrote took) = record {

@@ -24,6 +24,7 @@ use Rattle.tinkey_session.specs.declared.reply.LineRefusal.TheVariants.{Refused}
 use Rattle.tinkey_session.specs.declared.reply.Reply.TheVariants.{Gives, Refuses}
 use Rattle.wrapped_prims.specs.Answers.{Sealed, dopen_answer, open_answer, seal_answer, verify_answer}
 use Rattle.wrapped_prims.specs.Fitness.{unfit}
+use Rattle.tinkey_plans.specs.declared.origin.Origin.TheVariants as origins
 use Rattle.tinkey_plans.specs.Laws.{IsSession}
 use Rattle.tinkey_plans.specs.Commands.{command_plan}
 use Rattle.tinkey_plans.specs.Plan.{Answer, Told, answer, exchanges, writes}
@@ -130,7 +131,7 @@ named_short law table name form out (Some file) told before old h e done form_is
     let same = same_Some _ _ e in
     let form_same : form ≡ before.form = ap (λ (x : Handing). x.taken.form) same ∙ form_is in
     let there : map.get told.files name ≡ Some before.bytes = ap (λ (x : Handing). bytes_at x.taken.file told.files told.input) same ∙ read in
-    let l = load_done name form before.bytes old (holds_session table None out) told there (ap (λ x. read_in x before.bytes) form_same ∙ is) done in
+    let l = load_done origins.Keyset name form before.bytes old (holds_session table None out) told there (ap (λ x. read_in x before.bytes) form_same ∙ is) done in
     let whole : IsDoneAnswer (answer (holds_session table None out old) told) = ap (λ (a : Answer). a.status) (sym l) ∙ done in
     let free = free_done out.file (λ free. exchanges (talk table old) (saves table None out)) told whole in
     (talk_done law table None out old told (ap (λ (a : Answer). a.status) (sym free) ∙ whole)).short

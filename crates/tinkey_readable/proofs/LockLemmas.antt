@@ -13,10 +13,12 @@ use Rattle.seal_wrap.specs.Unwrapped as unwrapping
 use Rattle.wrapped_prims.specs.Answers.{open_answer}
 use Rattle.wrapped_prims.specs.Fitness.{unfit}
 use Rattle.wrapped_prims.specs.Laws.{IsKeyset}
+use Rattle.tinkey_plans.specs.declared.origin.Origin.{Origin}
+use Rattle.tinkey_plans.specs.declared.origin.Origin.TheVariants as origins
 use Rattle.tinkey_plans.specs.Handles.{handles, unless_unfit}
 use Rattle.tinkey_plans.specs.Locks.{loads_locked, opens_master, takes_under}
 use Rattle.tinkey_plans.specs.Plan.{Answer, Plan, Told, answer, writes}
-use Rattle.tinkey_plans.specs.Steps.{keyset_limit}
+use Rattle.tinkey_plans.specs.Steps.{keyset_limit, origin_of}
 use Rattle.tinkey_plans.specs.Using.{limit_for, puts_output, works}
 use Rattle.tinkey_plans.specs.Wrapping.{is_json, unwraps, wrapped_limit}
 use Rattle.tinkey_readable.proofs.PutLemmas.{made_put, worked}
@@ -59,38 +61,38 @@ pub record OpenedLock (table : Table) (master : Keys) (bytes : List ℕ) (next :
   pub fit : unfit master Aead table ≡ None
   pub goes_on : a ≡ answer (next (Some master)) told
 
-pub lock_done : (table : Table) (name : List ℕ) (form : Format) (bytes : List ℕ) (master : Keys) (next : Option Keys → Plan) (told : Told) → map.get told.files name ≡ Some bytes → read_in form bytes ≡ Some master
-    → IsDoneAnswer (answer (opens_master table (record { file = name; form = form }) next) told)
-    → OpenedLock table master bytes next told (answer (opens_master table (record { file = name; form = form }) next) told)
-lock_done table name form bytes master next told there e done =
+pub lock_done : (from : Origin) (table : Table) (name : List ℕ) (form : Format) (bytes : List ℕ) (master : Keys) (next : Option Keys → Plan) (told : Told) → map.get told.files name ≡ Some bytes → read_in form bytes ≡ Some master
+    → IsDoneAnswer (answer (opens_master from table (record { file = name; form = form }) next) told)
+    → OpenedLock table master bytes next told (answer (opens_master from table (record { file = name; form = form }) next) told)
+lock_done from table name form bytes master next told there e done =
     let fits : Keys → Plan = λ m. handles table Aead m (λ fit. next (Some m)) in
-    let l = load_done name form bytes master fits told there e done in
+    let l = load_done from name form bytes master fits told there e done in
     let d : IsDoneAnswer (answer (unless_unfit (unfit master Aead table) (next (Some master))) told) = ap (λ (a : Answer). a.status) (sym l) ∙ done in
     let fit = unfit_done (unfit master Aead table) (next (Some master)) told d in
     record {
-      within = load_within name form bytes fits told there done;
+      within = load_within from name form bytes fits told there done;
       fit = fit;
       goes_on = l ∙ ap (λ u. answer (unless_unfit u (next (Some master))) told) fit;
     }
 
-pub lock_reached : (table : Table) (name : List ℕ) (form : Format) (bytes : List ℕ) (master : Keys) (next : Option Keys → Plan) (told : Told) → map.get told.files name ≡ Some bytes → read_in form bytes ≡ Some master → length bytes ≤ keyset_limit → unfit master Aead table ≡ None
-    → answer (opens_master table (record { file = name; form = form }) next) told ≡ answer (next (Some master)) told
-lock_reached table name form bytes master next told there e within fit =
-    load_reached name form bytes master (λ m. handles table Aead m (λ fit. next (Some m))) told there e within
+pub lock_reached : (from : Origin) (table : Table) (name : List ℕ) (form : Format) (bytes : List ℕ) (master : Keys) (next : Option Keys → Plan) (told : Told) → map.get told.files name ≡ Some bytes → read_in form bytes ≡ Some master → length bytes ≤ keyset_limit → unfit master Aead table ≡ None
+    → answer (opens_master from table (record { file = name; form = form }) next) told ≡ answer (next (Some master)) told
+lock_reached from table name form bytes master next told there e within fit =
+    load_reached from name form bytes master (λ m. handles table Aead m (λ fit. next (Some m))) told there e within
     ∙ ap (λ u. answer (unless_unfit u (next (Some master))) told) fit
 
-pub under_done : (master : Keys) (place : Place) (bytes : List ℕ) (keys : Keys) (next : Keys → Plan) (told : Told) → bytes_at place.file told.files told.input ≡ Some bytes → unwrap_of master standard_table bytes (is_json place.form) ≡ Ok keys
-    → IsDoneAnswer (answer (takes_under standard_table (Some master) place next) told)
-    → answer (takes_under standard_table (Some master) place next) told ≡ answer (next keys) (behind place.file told)
-under_done master place bytes keys next told there gives done =
-    text_done place.file bytes (λ text. unwraps master standard_table place.form text next) told there done
-    ∙ given_keyset master place.form bytes keys next (behind place.file told) gives
+pub under_done : (from : Origin) (master : Keys) (place : Place) (bytes : List ℕ) (keys : Keys) (next : Keys → Plan) (told : Told) → bytes_at place.file told.files told.input ≡ Some bytes → unwrap_of master standard_table bytes (is_json place.form) ≡ Ok keys
+    → IsDoneAnswer (answer (takes_under from standard_table (Some master) place next) told)
+    → answer (takes_under from standard_table (Some master) place next) told ≡ answer (next keys) (behind place.file told)
+under_done from master place bytes keys next told there gives done =
+    text_done from place.file bytes (λ text. unwraps (origin_of from place.file) master standard_table place.form text next) told there done
+    ∙ given_keyset (origin_of from place.file) master place.form bytes keys next (behind place.file told) gives
 
-pub under_reached : (master : Keys) (place : Place) (bytes : List ℕ) (keys : Keys) (next : Keys → Plan) (told : Told) → bytes_at place.file told.files told.input ≡ Some bytes → unwrap_of master standard_table bytes (is_json place.form) ≡ Ok keys → length bytes ≤ wrapped_limit
-    → answer (takes_under standard_table (Some master) place next) told ≡ answer (next keys) (behind place.file told)
-under_reached master place bytes keys next told there gives within =
-    text_reached place.file bytes (λ text. unwraps master standard_table place.form text next) told there within
-    ∙ given_keyset master place.form bytes keys next (behind place.file told) gives
+pub under_reached : (from : Origin) (master : Keys) (place : Place) (bytes : List ℕ) (keys : Keys) (next : Keys → Plan) (told : Told) → bytes_at place.file told.files told.input ≡ Some bytes → unwrap_of master standard_table bytes (is_json place.form) ≡ Ok keys → length bytes ≤ wrapped_limit
+    → answer (takes_under from standard_table (Some master) place next) told ≡ answer (next keys) (behind place.file told)
+under_reached from master place bytes keys next told there gives within =
+    text_reached from place.file bytes (λ text. unwraps (origin_of from place.file) master standard_table place.form text next) told there within
+    ∙ given_keyset (origin_of from place.file) master place.form bytes keys next (behind place.file told) gives
 
 -- the keyset in a file, behind its lock
 pub locked_done : (master text : Written) (over keys : Keys) (lock name : List ℕ) (next : Keys → Plan) (told : Told) → map.get told.files lock ≡ Some master.bytes → keyset_of master ≡ Some over → map.get told.files name ≡ Some text.bytes → GivesUnder over text keys
@@ -98,16 +100,16 @@ pub locked_done : (master text : Written) (over keys : Keys) (lock name : List �
     → answer (loads_locked standard_table (Some (record { file = lock; form = master.form })) name text.form next) told ≡ answer (next keys) told
 locked_done master text over keys lock name next told opens read lies gives done =
     let place : Place = record { file = Some name; form = text.form } in
-    let o = lock_done standard_table lock master.form master.bytes over (λ m. takes_under standard_table m place next) told opens read done in
-    o.goes_on ∙ under_done over place text.bytes keys next told lies gives (ap (λ (a : Answer). a.status) (sym o.goes_on) ∙ done)
+    let o = lock_done origins.Master standard_table lock master.form master.bytes over (λ m. takes_under origins.Keyset standard_table m place next) told opens read done in
+    o.goes_on ∙ under_done origins.Keyset over place text.bytes keys next told lies gives (ap (λ (a : Answer). a.status) (sym o.goes_on) ∙ done)
 
 pub locked_reached : (master text : Written) (over keys : Keys) (lock name : List ℕ) (next : Keys → Plan) (told : Told) → map.get told.files lock ≡ Some master.bytes → keyset_of master ≡ Some over → map.get told.files name ≡ Some text.bytes → GivesUnder over text keys
     → length master.bytes ≤ keyset_limit → unfit over Aead standard_table ≡ None → length text.bytes ≤ wrapped_limit
     → answer (loads_locked standard_table (Some (record { file = lock; form = master.form })) name text.form next) told ≡ answer (next keys) told
 locked_reached master text over keys lock name next told opens read lies gives within fit short =
     let place : Place = record { file = Some name; form = text.form } in
-    lock_reached standard_table lock master.form master.bytes over (λ m. takes_under standard_table m place next) told opens read within fit
-    ∙ under_reached over place text.bytes keys next told lies gives short
+    lock_reached origins.Master standard_table lock master.form master.bytes over (λ m. takes_under origins.Keyset standard_table m place next) told opens read within fit
+    ∙ under_reached origins.Keyset over place text.bytes keys next told lies gives short
 
 -- ---- work
 

@@ -36,8 +36,9 @@ use Rattle.tinkey_session.specs.TalkLaws.{TalkIsTurns}
 use Rattle.tinkey_session.specs.Talking.{talk}
 use Rattle.wrapped_prims.specs.Answers.{seal_answer}
 use Rattle.wrapped_prims.specs.Laws.{IsKeyset}
+use Rattle.tinkey_plans.specs.declared.origin.Origin.TheVariants as origins
 use Rattle.tinkey_plans.specs.Commands.{command_plan}
-use Rattle.tinkey_plans.specs.Locks.{opens_master, puts_under, takes_under}
+use Rattle.tinkey_plans.specs.Locks.{opens_master, put_origin, puts_under, takes_under}
 use Rattle.tinkey_plans.specs.Plan.{Answer, Plan, Told, answer, exchanges}
 use Rattle.tinkey_plans.specs.Session.{holds_session, saves, saves_as}
 use Rattle.tinkey_plans.specs.Steps.{keyset_limit, makes_keyset, puts, written_in}
@@ -190,12 +191,12 @@ edit_under : StepLaws → (lock : Master) (edit : AskedEdit) (in' out : Place) (
     → Went (edit_keyset (Some lock) edit in' out) told master text put after over old (same_handing lock in' out)
     → StepUnder (edit_keyset (Some lock) edit in' out) told old put after
 edit_under l lock edit in' out told master text put after over old w =
-    let makes : Edit → Option Keys → Plan = λ e m. takes_under standard_table m in' (λ keys. makes_keyset (step keys e) (puts_under standard_table m out)) in
-    let f = found_edit edit (λ e. opens_master standard_table lock (makes e)) told w.done in
-    let d1 : IsDoneAnswer (answer (opens_master standard_table lock (makes f.edit)) told) = ap (λ (a : Answer). a.status) (sym f.goes_on) ∙ w.done in
-    let o = lock_done standard_table lock.file lock.form master.bytes over (makes f.edit) told w.lies (ap (λ x. read_in x master.bytes) w.form ∙ w.read) d1 in
+    let makes : Edit → Option Keys → Plan = λ e m. takes_under origins.In standard_table m in' (λ keys. makes_keyset (step keys e) (puts_under standard_table m out)) in
+    let f = found_edit edit (λ e. opens_master origins.Master standard_table lock (makes e)) told w.done in
+    let d1 : IsDoneAnswer (answer (opens_master origins.Master standard_table lock (makes f.edit)) told) = ap (λ (a : Answer). a.status) (sym f.goes_on) ∙ w.done in
+    let o = lock_done origins.Master standard_table lock.file lock.form master.bytes over (makes f.edit) told w.lies (ap (λ x. read_in x master.bytes) w.form ∙ w.read) d1 in
     let d2 : IsDoneAnswer (answer (makes f.edit (Some over)) told) = ap (λ (a : Answer). a.status) (sym o.goes_on) ∙ d1 in
-    let t = under_done over in' text.bytes old (λ keys. makes_keyset (step keys f.edit) (puts_under standard_table (Some over) out)) told w.taken (ap (λ x. unwrap_of over standard_table text.bytes (is_json x)) w.taken_form ∙ w.gives) d2 in
+    let t = under_done origins.In over in' text.bytes old (λ keys. makes_keyset (step keys f.edit) (puts_under standard_table (Some over) out)) told w.taken (ap (λ x. unwrap_of over standard_table text.bytes (is_json x)) w.taken_form ∙ w.gives) d2 in
     let behind' = behind in'.file told in
     let m = made_done (step old f.edit) (puts_under standard_table (Some over) out) behind' (ap (λ (a : Answer). a.status) (sym t) ∙ d2) in
     let left = record behind' { random = m.drawn.left } in
@@ -216,10 +217,10 @@ convert_under : (lock : Master) (in' out : Place) (told : Told) (master text put
     → Went (convert_keyset (Some lock) as_taken in' out) told master text put after over old (same_handing lock in' out)
     → StepUnder (convert_keyset (Some lock) as_taken in' out) told old put after
 convert_under lock in' out told master text put after over old w =
-    let puts' : Option Keys → Plan = λ m. takes_under standard_table m in' (puts_under standard_table m out) in
-    let o = lock_done standard_table lock.file lock.form master.bytes over puts' told w.lies (ap (λ x. read_in x master.bytes) w.form ∙ w.read) w.done in
+    let puts' : Option Keys → Plan = λ m. takes_under origins.In standard_table m in' (puts_under standard_table m out) in
+    let o = lock_done origins.Master standard_table lock.file lock.form master.bytes over puts' told w.lies (ap (λ x. read_in x master.bytes) w.form ∙ w.read) w.done in
     let d : IsDoneAnswer (answer (puts' (Some over)) told) = ap (λ (a : Answer). a.status) (sym o.goes_on) ∙ w.done in
-    let t = under_done over in' text.bytes old (puts_under standard_table (Some over) out) told w.taken (ap (λ x. unwrap_of over standard_table text.bytes (is_json x)) w.taken_form ∙ w.gives) d in
+    let t = under_done origins.In over in' text.bytes old (puts_under standard_table (Some over) out) told w.taken (ap (λ x. unwrap_of over standard_table text.bytes (is_json x)) w.taken_form ∙ w.gives) d in
     let behind' = behind in'.file told in
     let whole = o.goes_on ∙ t in
     let p = put_under over out old behind' (ap (λ (a : Answer). a.status) (sym whole) ∙ w.done) in
@@ -230,13 +231,13 @@ rewrap_under : (lock new : Master) (in' out : Place) (told : Told) (master text 
     → Went (convert_keyset (Some lock) (under new) in' out) told master text put after over old (record { lock = lock; new = new; handing = record { taken = in'; put = out } })
     → StepUnder (convert_keyset (Some lock) (under new) in' out) told old put after
 rewrap_under lock new in' out told master text put after over old w =
-    let puts' : Option Keys → Option Keys → Plan = λ m n. takes_under standard_table m in' (puts_under standard_table n out) in
-    let opens : Option Keys → Plan = λ m. opens_master standard_table new (puts' m) in
-    let o = lock_done standard_table lock.file lock.form master.bytes over opens told w.lies (ap (λ x. read_in x master.bytes) w.form ∙ w.read) w.done in
+    let puts' : Option Keys → Option Keys → Plan = λ m n. takes_under origins.In standard_table m in' (puts_under standard_table n out) in
+    let opens : Option Keys → Plan = λ m. opens_master (put_origin m) standard_table new (puts' m) in
+    let o = lock_done origins.Master standard_table lock.file lock.form master.bytes over opens told w.lies (ap (λ x. read_in x master.bytes) w.form ∙ w.read) w.done in
     let d1 : IsDoneAnswer (answer (opens (Some over)) told) = ap (λ (a : Answer). a.status) (sym o.goes_on) ∙ w.done in
-    let n = lock_done standard_table new.file new.form put.bytes w.new_over (puts' (Some over)) told w.new_lies (ap (λ x. read_in x put.bytes) w.new_form ∙ w.new_read) d1 in
+    let n = lock_done origins.NewMaster standard_table new.file new.form put.bytes w.new_over (puts' (Some over)) told w.new_lies (ap (λ x. read_in x put.bytes) w.new_form ∙ w.new_read) d1 in
     let d2 : IsDoneAnswer (answer (puts' (Some over) (Some w.new_over)) told) = ap (λ (a : Answer). a.status) (sym n.goes_on) ∙ d1 in
-    let t = under_done over in' text.bytes old (puts_under standard_table (Some w.new_over) out) told w.taken (ap (λ x. unwrap_of over standard_table text.bytes (is_json x)) w.taken_form ∙ w.gives) d2 in
+    let t = under_done origins.In over in' text.bytes old (puts_under standard_table (Some w.new_over) out) told w.taken (ap (λ x. unwrap_of over standard_table text.bytes (is_json x)) w.taken_form ∙ w.gives) d2 in
     let behind' = behind in'.file told in
     let whole = o.goes_on ∙ n.goes_on ∙ t in
     let p = put_under w.new_over out old behind' (ap (λ (a : Answer). a.status) (sym whole) ∙ w.done) in
@@ -262,10 +263,10 @@ session_step : StepLaws → (lock : Master) (name : List ℕ) (form of_out : For
 session_step l lock name form of_out file told master text put after over old w =
     let in' : Place = record { file = Some name; form = form } in
     let out : Place = record { file = Some file; form = of_out } in
-    let holds : Option Keys → Plan = λ m. takes_under standard_table m in' (holds_session standard_table m out) in
-    let o = lock_done standard_table lock.file lock.form master.bytes over holds told w.lies (ap (λ x. read_in x master.bytes) w.form ∙ w.read) w.done in
+    let holds : Option Keys → Plan = λ m. takes_under origins.Keyset standard_table m in' (holds_session standard_table m out) in
+    let o = lock_done origins.Master standard_table lock.file lock.form master.bytes over holds told w.lies (ap (λ x. read_in x master.bytes) w.form ∙ w.read) w.done in
     let d1 : IsDoneAnswer (answer (holds (Some over)) told) = ap (λ (a : Answer). a.status) (sym o.goes_on) ∙ w.done in
-    let t = under_done over in' text.bytes old (holds_session standard_table (Some over) out) told w.taken (ap (λ x. unwrap_of over standard_table text.bytes (is_json x)) w.taken_form ∙ w.gives) d1 in
+    let t = under_done origins.Keyset over in' text.bytes old (holds_session standard_table (Some over) out) told w.taken (ap (λ x. unwrap_of over standard_table text.bytes (is_json x)) w.taken_form ∙ w.gives) d1 in
     let d2 : IsDoneAnswer (answer (holds_session standard_table (Some over) out old) told) = ap (λ (a : Answer). a.status) (sym t) ∙ d1 in
     let free = free_done out.file (λ free. exchanges (talk standard_table old) (saves standard_table (Some over) out)) told d2 in
     let d = talk_done l.turns standard_table (Some over) out old told (ap (λ (a : Answer). a.status) (sym free) ∙ d2) in
@@ -500,9 +501,9 @@ created_under : FirstsAreKeysets → FirstsAreStored → (lock : Master) (templa
     → CreatedUnder template told.random master text
 created_under firsts firsts_stored lock template out told master text over form lies read random done put_form put =
     let makes : Row → Option Keys → Plan = λ row m. makes_keyset (first row) (puts_under standard_table m out) in
-    let f = found_row (row_named template) template (λ row. opens_master standard_table lock (makes row)) told done in
-    let d1 : IsDoneAnswer (answer (opens_master standard_table lock (makes f.0)) told) = ap (λ (a : Answer). a.status) (sym f.2) ∙ done in
-    let o = lock_done standard_table lock.file lock.form master.bytes over (makes f.0) told lies (ap (λ x. read_in x master.bytes) form ∙ read) d1 in
+    let f = found_row (row_named template) template (λ row. opens_master origins.Master standard_table lock (makes row)) told done in
+    let d1 : IsDoneAnswer (answer (opens_master origins.Master standard_table lock (makes f.0)) told) = ap (λ (a : Answer). a.status) (sym f.2) ∙ done in
+    let o = lock_done origins.Master standard_table lock.file lock.form master.bytes over (makes f.0) told lies (ap (λ x. read_in x master.bytes) form ∙ read) d1 in
     let m = made_done (first f.0) (puts_under standard_table (Some over) out) told (ap (λ (a : Answer). a.status) (sym o.goes_on) ∙ d1) in
     let left = record told { random = m.drawn.left } in
     let whole = f.2 ∙ o.goes_on ∙ m.goes_on in

@@ -22,11 +22,15 @@ use Rattle.seal_wrap.specs.Wrapped.{Wrapped, wrap_of}
 use Rattle.tinkey_cmds.specs.Draws.{Drawn}
 use Rattle.wrapped_prims.specs.Fitness.{unfit}
 use Rattle.wrapped_prims.specs.Laws.{IsKeyset}
+use Rattle.tinkey_plans.specs.Origins.{begins_of}
+use Rattle.tinkey_plans.specs.declared.origin.Begins.{Begins}
+use Rattle.tinkey_plans.specs.declared.origin.Origin.{Origin}
+use Rattle.tinkey_plans.specs.declared.origin.Origin.TheVariants as origins
 use Rattle.tinkey_plans.specs.declared.status.Status.TheVariants as status
 use Rattle.tinkey_plans.specs.Handles.{handles, unless_unfit}
-use Rattle.tinkey_plans.specs.Locks.{keyset_under, limit_under, loads_locked, opens_lock, opens_new_lock, puts_under, takes_locked, takes_under, writes_under}
+use Rattle.tinkey_plans.specs.Locks.{keyset_under, limit_under, loads_locked, opens_lock, opens_master, opens_new_lock, put_origin, puts_under, takes_locked, takes_under, writes_under}
 use Rattle.tinkey_plans.specs.Plan.{Answer, Plan, Told, answer, create_answer, draw_answer, ends, load_answer, refused}
-use Rattle.tinkey_plans.specs.Steps.{has_no_key, keyset_in, keyset_limit, puts, takes_bytes, with_json, with_keyset, with_made, within_limit, written_in}
+use Rattle.tinkey_plans.specs.Steps.{has_no_key, keyset_in, keyset_limit, origin_of, puts, takes_bytes, with_json, with_keyset, with_made, within_limit, written_in}
 use Rattle.tinkey_plans.specs.declared.sealer.Sealer.{Sealer}
 use Rattle.tinkey_plans.specs.Wrapping.{as_wrapping, ends_unopened, is_json, is_keyset, keyset_sealer, makes_wrapped, with_unwrapped, wrapped_limit}
 use Rattle.tinkey_words.specs.declared.words.rows.Format.{Format}
@@ -42,22 +46,22 @@ use Rattle.tinkey_readable.proofs.WrappedRunLemmas.{within_done}
 
 -- ---- bytes
 
-bytes_there : (limit : ℕ) (file : Option (List ℕ)) (next : List ℕ → Plan) (told : Told) → IsDoneAnswer (answer (takes_bytes limit file next) told) → (bytes : List ℕ) × (bytes_at file told.files told.input ≡ Some bytes) × (length bytes ≤ limit)
-bytes_there limit None next told done =
+bytes_there : (from : Origin) (limit : ℕ) (file : Option (List ℕ)) (next : List ℕ → Plan) (told : Told) → IsDoneAnswer (answer (takes_bytes from limit file next) told) → (bytes : List ℕ) × (bytes_at file told.files told.input ≡ Some bytes) × (length bytes ≤ limit)
+bytes_there from limit None next told done =
     (told.input, refl, leb-true (length told.input) limit (went_test (nat_le (length told.input) limit) (answer (next told.input) (record told { input = [] })) (record (refused told status.KeysetTooLong) { input = Some (drop (limit + 1) told.input) }) (λ h. absurd (cc)) done))
-bytes_there limit (Some name) next told done = by (map.get told.files name) refl done
+bytes_there from limit (Some name) next told done = by (map.get told.files name) refl done
   where
     go : List ℕ → Answer
     go b = answer (next b) told
 
-    by : (found : Option (List ℕ)) → map.get told.files name ≡ found → IsDoneAnswer (load_answer found limit (refused told status.InMissing) (refused told status.KeysetTooLong) go) → (bytes : List ℕ) × (map.get told.files name ≡ Some bytes) × (length bytes ≤ limit)
+    by : (found : Option (List ℕ)) → map.get told.files name ≡ found → IsDoneAnswer (load_answer found limit (refused told (status.InMissing from)) (refused told status.KeysetTooLong) go) → (bytes : List ℕ) × (map.get told.files name ≡ Some bytes) × (length bytes ≤ limit)
     by None is gone = absurd (cc)
-    by (Some bytes) is gone = (bytes, is, loaded_within (map.get told.files name) bytes limit (refused told status.InMissing) (refused told status.KeysetTooLong) go is (λ h. absurd (cc)) done)
+    by (Some bytes) is gone = (bytes, is, loaded_within (map.get told.files name) bytes limit (refused told (status.InMissing from)) (refused told status.KeysetTooLong) go is (λ h. absurd (cc)) done)
 
-bytes_taken : (limit : ℕ) (file : Option (List ℕ)) (bytes : List ℕ) (next : List ℕ → Plan) (told : Told) → bytes_at file told.files told.input ≡ Some bytes → length bytes ≤ limit → answer (takes_bytes limit file next) told ≡ answer (next bytes) (behind file told)
-bytes_taken limit (Some name) bytes next told there within =
-    loaded (map.get told.files name) bytes limit (refused told status.InMissing) (refused told status.KeysetTooLong) (λ b. answer (next b) told) there within
-bytes_taken limit None bytes next told there within =
+bytes_taken : (from : Origin) (limit : ℕ) (file : Option (List ℕ)) (bytes : List ℕ) (next : List ℕ → Plan) (told : Told) → bytes_at file told.files told.input ≡ Some bytes → length bytes ≤ limit → answer (takes_bytes from limit file next) told ≡ answer (next bytes) (behind file told)
+bytes_taken from limit (Some name) bytes next told there within =
+    loaded (map.get told.files name) bytes limit (refused told (status.InMissing from)) (refused told status.KeysetTooLong) (λ b. answer (next b) told) there within
+bytes_taken from limit None bytes next told there within =
     let same : told.input ≡ bytes = same_Some _ _ there in
     let short = subst (λ b. length b ≤ limit) (sym same) within in
     let test : nat_le (length told.input) limit ≡ true = grind (arith, nat_tests, short) in
@@ -70,63 +74,63 @@ not_faulty : (b : Bool) (fault : KeysetFault) (told : Told) → IsDoneAnswer (an
 not_faulty true fault told done = cc
 not_faulty false fault told done = cc
 
-not_cut : (b : Bool) (at : ℕ) (told : Told) → IsDoneAnswer (answer (if b then ends (status.ProtoLocked at) tt else ends (status.BadProto at) tt) told) → ⊥
-not_cut true at told done = cc
-not_cut false at told done = cc
+not_cut : (from : Origin) (begins : Begins) (b : Bool) (at : ℕ) (told : Told) → IsDoneAnswer (answer (if b then ends (status.ProtoLocked at) tt else ends (status.BadProto at from begins) tt) told) → ⊥
+not_cut from begins true at told done = cc
+not_cut from begins false at told done = cc
 
-read_there : (form : Format) (bytes : List ℕ) (next : Keys → Plan) (told : Told) → IsDoneAnswer (answer (keyset_in form bytes next) told) → (keys : Keys) × (read_in form bytes ≡ Some keys)
-read_there formats.Json bytes next told done = by (reads_json bytes) done
+read_there : (from : Origin) (form : Format) (bytes : List ℕ) (next : Keys → Plan) (told : Told) → IsDoneAnswer (answer (keyset_in from form bytes next) told) → (keys : Keys) × (read_in form bytes ≡ Some keys)
+read_there from formats.Json bytes next told done = by (reads_json bytes) done
   where
-    by : (r : Result Keys json.Refusal) → IsDoneAnswer (answer (with_json (is_wrapped_json bytes) r next) told) → (keys : Keys) × (result_ok r ≡ Some keys)
+    by : (r : Result Keys json.Refusal) → IsDoneAnswer (answer (with_json from (begins_of bytes) (is_wrapped_json bytes) r next) told) → (keys : Keys) × (result_ok r ≡ Some keys)
     by (Ok keys) done = (keys, refl)
     by (Err json.NotJson) done = absurd (cc)
     by (Err (json.Shape path)) done = absurd (cc)
     by (Err (json.Fault fault)) done = absurd (not_faulty (is_wrapped_json bytes && has_no_key fault) fault told done)
-read_there formats.Binary bytes next told done = by (reads_binary bytes) done
+read_there from formats.Binary bytes next told done = by (reads_binary bytes) done
   where
-    by : (r : Result Keys binary.Refusal) → IsDoneAnswer (answer (with_keyset (is_wrapped_binary bytes) r next) told) → (keys : Keys) × (result_ok r ≡ Some keys)
+    by : (r : Result Keys binary.Refusal) → IsDoneAnswer (answer (with_keyset from (begins_of bytes) (is_wrapped_binary bytes) r next) told) → (keys : Keys) × (result_ok r ≡ Some keys)
     by (Ok keys) done = (keys, refl)
-    by (Err (binary.Wire at)) done = absurd (not_cut (is_wrapped_binary bytes false) at told done)
+    by (Err (binary.Wire at)) done = absurd (not_cut from (begins_of bytes) (is_wrapped_binary bytes false) at told done)
     by (Err (binary.Fault fault)) done = absurd (not_faulty (is_wrapped_binary bytes true) fault told done)
 
 not_unopened : (clear : Bool) (sealer : Sealer) (told : Told) → IsDoneAnswer (answer (ends_unopened clear sealer) told) → ⊥
 not_unopened true sealer told done = cc
 not_unopened false sealer told done = cc
 
-given_there : (clear' : Bool) (sealer : Sealer) (r : Result Keys Refusal) (next : Keys → Plan) (told : Told) → IsDoneAnswer (answer (with_unwrapped clear' sealer r next) told) → (keys : Keys) × (r ≡ Ok keys)
-given_there clear' sealer (Ok keys) next told done = (keys, refl)
-given_there clear' sealer (Err (OuterWire at)) next told done = absurd (cc)
-given_there clear' sealer (Err NotJson) next told done = absurd (cc)
-given_there clear' sealer (Err Member) next told done = absurd (cc)
-given_there clear' sealer (Err NotOpened) next told done = absurd (not_unopened clear' sealer told done)
-given_there clear' sealer (Err (InnerWire at)) next told done = absurd (cc)
-given_there clear' sealer (Err (Fault fault)) next told done = absurd (cc)
+given_there : (from : Origin) (begins : Begins) (clear' : Bool) (sealer : Sealer) (r : Result Keys Refusal) (next : Keys → Plan) (told : Told) → IsDoneAnswer (answer (with_unwrapped from begins clear' sealer r next) told) → (keys : Keys) × (r ≡ Ok keys)
+given_there from begins clear' sealer (Ok keys) next told done = (keys, refl)
+given_there from begins clear' sealer (Err (OuterWire at)) next told done = absurd (cc)
+given_there from begins clear' sealer (Err NotJson) next told done = absurd (cc)
+given_there from begins clear' sealer (Err Member) next told done = absurd (cc)
+given_there from begins clear' sealer (Err NotOpened) next told done = absurd (not_unopened clear' sealer told done)
+given_there from begins clear' sealer (Err (InnerWire at)) next told done = absurd (cc)
+given_there from begins clear' sealer (Err (Fault fault)) next told done = absurd (cc)
 
-keyset_there : (table : Table) (master : Option Keys) (form : Format) (bytes : List ℕ) (next : Keys → Plan) (told : Told) → IsDoneAnswer (answer (keyset_under table master form bytes next) told) → (keys : Keys) × GivesKeyset table master form bytes keys
-keyset_there table None form bytes next told done = read_there form bytes next told done
-keyset_there table (Some over) form bytes next told done = given_there (is_keyset form bytes) (keyset_sealer form over bytes) (unwrap_of over table bytes (is_json form)) next told done
+keyset_there : (from : Origin) (table : Table) (master : Option Keys) (form : Format) (bytes : List ℕ) (next : Keys → Plan) (told : Told) → IsDoneAnswer (answer (keyset_under from table master form bytes next) told) → (keys : Keys) × GivesKeyset table master form bytes keys
+keyset_there from table None form bytes next told done = read_there from form bytes next told done
+keyset_there from table (Some over) form bytes next told done = given_there from (begins_of bytes) (is_keyset form bytes) (keyset_sealer form over bytes) (unwrap_of over table bytes (is_json form)) next told done
 
-pub keyset_given : (table : Table) (master : Option Keys) (form : Format) (bytes : List ℕ) (keys : Keys) (next : Keys → Plan) (told : Told) → GivesKeyset table master form bytes keys → answer (keyset_under table master form bytes next) told ≡ answer (next keys) told
-keyset_given table None form bytes keys next told gives = keyset_reached form bytes keys next told gives
-keyset_given table (Some over) form bytes keys next told gives = ap (λ (o : Result Keys Refusal). answer (with_unwrapped (is_keyset form bytes) (keyset_sealer form over bytes) o next) told) gives
+pub keyset_given : (from : Origin) (table : Table) (master : Option Keys) (form : Format) (bytes : List ℕ) (keys : Keys) (next : Keys → Plan) (told : Told) → GivesKeyset table master form bytes keys → answer (keyset_under from table master form bytes next) told ≡ answer (next keys) told
+keyset_given from table None form bytes keys next told gives = keyset_reached from form bytes keys next told gives
+keyset_given from table (Some over) form bytes keys next told gives = ap (λ (o : Result Keys Refusal). answer (with_unwrapped from (begins_of bytes) (is_keyset form bytes) (keyset_sealer form over bytes) o next) told) gives
 
 pub given_faultless : (table : Table) (master : Option Keys) (form : Format) (bytes : List ℕ) (keys : Keys) → GivesKeyset table master form bytes keys → fault_of keys ≡ None
 given_faultless table None form bytes keys gives = read_faultless (record { bytes = bytes; form = form }) keys gives
 given_faultless table (Some over) form bytes keys gives = (unwrapped_is_keyset table over (is_json form) bytes keys gives).faultless
 
 -- one that lies at a place
-pub takes_there : (table : Table) (master : Option Keys) (place : Place) (next : Keys → Plan) (told : Told) → IsDoneAnswer (answer (takes_under table master place next) told) → (keys : Keys) × LiesThere table master place told keys
-takes_there table master place next told done =
-    let read : List ℕ → Plan = λ bytes. keyset_under table master place.form bytes next in
-    let b = bytes_there (limit_under master) place.file read told done in
-    let t = bytes_taken (limit_under master) place.file b.0 read told b.1 b.2 in
-    let k = keyset_there table master place.form b.0 next (behind place.file told) (ap (λ (a : Answer). a.status) (sym t) ∙ done) in
+pub takes_there : (from : Origin) (table : Table) (master : Option Keys) (place : Place) (next : Keys → Plan) (told : Told) → IsDoneAnswer (answer (takes_under from table master place next) told) → (keys : Keys) × LiesThere table master place told keys
+takes_there from table master place next told done =
+    let read : List ℕ → Plan = λ bytes. keyset_under (origin_of from place.file) table master place.form bytes next in
+    let b = bytes_there from (limit_under master) place.file read told done in
+    let t = bytes_taken from (limit_under master) place.file b.0 read told b.1 b.2 in
+    let k = keyset_there (origin_of from place.file) table master place.form b.0 next (behind place.file told) (ap (λ (a : Answer). a.status) (sym t) ∙ done) in
     (k.0, record { bytes = b.0; there = b.1; within = b.2; gives = k.1 })
 
-pub takes_reached : (table : Table) (master : Option Keys) (place : Place) (keys : Keys) (next : Keys → Plan) (told : Told) → LiesThere table master place told keys → answer (takes_under table master place next) told ≡ answer (next keys) (behind place.file told)
-takes_reached table master place keys next told lies =
-    bytes_taken (limit_under master) place.file lies.bytes (λ bytes. keyset_under table master place.form bytes next) told lies.there lies.within
-    ∙ keyset_given table master place.form lies.bytes keys next (behind place.file told) lies.gives
+pub takes_reached : (from : Origin) (table : Table) (master : Option Keys) (place : Place) (keys : Keys) (next : Keys → Plan) (told : Told) → LiesThere table master place told keys → answer (takes_under from table master place next) told ≡ answer (next keys) (behind place.file told)
+takes_reached from table master place keys next told lies =
+    bytes_taken from (limit_under master) place.file lies.bytes (λ bytes. keyset_under (origin_of from place.file) table master place.form bytes next) told lies.there lies.within
+    ∙ keyset_given (origin_of from place.file) table master place.form lies.bytes keys next (behind place.file told) lies.gives
 
 -- ---- a lock
 
@@ -136,56 +140,60 @@ master_place lock = record { file = Some lock.file; form = lock.form }
 abbrev fits_master : Table → (Option Keys → Plan) → Keys → Plan
 fits_master table next over = handles table Aead over (λ fit. next (Some over))
 
+master_there : (from : Origin) (table : Table) (lock : Master) (next : Option Keys → Plan) (told : Told) → IsDoneAnswer (answer (opens_master from table lock next) told) → (over : Keys) × OpensMaster table lock told over
+master_there from table lock next told done =
+    let k = takes_there from table None (master_place lock) (fits_master table next) told done in
+    let t = takes_reached from table None (master_place lock) k.0 (fits_master table next) told k.1 in
+    let d : IsDoneAnswer (answer (unless_unfit (unfit k.0 Aead table) (next (Some k.0))) told) = ap (λ (a : Answer). a.status) (sym t) ∙ done in
+    (k.0, record { lies = k.1; fit = unfit_done (unfit k.0 Aead table) (next (Some k.0)) told d })
+
 pub lock_there : (table : Table) (lock : Lock) (next : Option Keys → Plan) (told : Told) → IsDoneAnswer (answer (opens_lock table lock next) told) → (master : Option Keys) × OpensLock table lock told master
 lock_there table None next told done = (None, tt)
-lock_there table (Some lock) next told done =
-    let k = takes_there table None (master_place lock) (fits_master table next) told done in
-    let t = takes_reached table None (master_place lock) k.0 (fits_master table next) told k.1 in
-    let d : IsDoneAnswer (answer (unless_unfit (unfit k.0 Aead table) (next (Some k.0))) told) = ap (λ (a : Answer). a.status) (sym t) ∙ done in
-    (Some k.0, record { lies = k.1; fit = unfit_done (unfit k.0 Aead table) (next (Some k.0)) told d })
+lock_there table (Some lock) next told done = let m = master_there origins.Master table lock next told done in (Some m.0, m.1)
 
-master_reached : (table : Table) (lock : Master) (over : Keys) (next : Option Keys → Plan) (told : Told) → OpensMaster table lock told over → answer (opens_lock table (Some lock) next) told ≡ answer (next (Some over)) told
-master_reached table lock over next told opens =
-    takes_reached table None (master_place lock) over (fits_master table next) told opens.lies
+master_reached : (from : Origin) (table : Table) (lock : Master) (over : Keys) (next : Option Keys → Plan) (told : Told) → OpensMaster table lock told over → answer (opens_master from table lock next) told ≡ answer (next (Some over)) told
+master_reached from table lock over next told opens =
+    takes_reached from table None (master_place lock) over (fits_master table next) told opens.lies
     ∙ ap (λ u. answer (unless_unfit u (next (Some over))) told) opens.fit
 
 pub lock_reached : (table : Table) (lock : Lock) (master : Option Keys) (next : Option Keys → Plan) (told : Told) → OpensLock table lock told master → answer (opens_lock table lock next) told ≡ answer (next master) told
 lock_reached table None None next told opens = refl
 lock_reached table None (Some over) next told opens = absurd opens
 lock_reached table (Some lock) None next told opens = absurd opens
-lock_reached table (Some lock) (Some over) next told opens = master_reached table lock over next told opens
+lock_reached table (Some lock) (Some over) next told opens = master_reached origins.Master table lock over next told opens
 
 -- the one that a keyset is put under
 pub new_lock_there : (table : Table) (new : NewLock) (taken : Option Keys) (next : Option Keys → Plan) (told : Told) → IsDoneAnswer (answer (opens_new_lock table new taken next) told) → (put : Option Keys) × OpensNewLock table new taken told put
 new_lock_there table as_taken taken next told done = (taken, refl)
 new_lock_there table in_clear taken next told done = (None, refl)
-new_lock_there table (under master) taken next told done = lock_there table (Some master) next told done
+new_lock_there table (under master) taken next told done = let m = master_there (put_origin taken) table master next told done in (Some m.0, m.1)
 
 pub new_lock_reached : (table : Table) (new : NewLock) (taken put : Option Keys) (next : Option Keys → Plan) (told : Told) → OpensNewLock table new taken told put → answer (opens_new_lock table new taken next) told ≡ answer (next put) told
 new_lock_reached table as_taken taken put next told opens = ap (λ m. answer (next m) told) opens
 new_lock_reached table in_clear taken put next told opens = ap (λ m. answer (next m) told) opens
-new_lock_reached table (under master) taken put next told opens = lock_reached table (Some master) put next told opens
+new_lock_reached table (under master) taken None next told opens = absurd opens
+new_lock_reached table (under master) taken (Some over) next told opens = master_reached (put_origin taken) table master over next told opens
 
 -- a keyset behind a lock
-pub behind_there : (table : Table) (lock : Lock) (place : Place) (next : Keys → Plan) (told : Told) → IsDoneAnswer (answer (takes_locked table lock place next) told) → (keys : Keys) × LiesBehind table lock place told keys
-behind_there table lock place next told done =
-    let taken : Option Keys → Plan = λ master. takes_under table master place next in
+pub behind_there : (from : Origin) (table : Table) (lock : Lock) (place : Place) (next : Keys → Plan) (told : Told) → IsDoneAnswer (answer (takes_locked from table lock place next) told) → (keys : Keys) × LiesBehind table lock place told keys
+behind_there from table lock place next told done =
+    let taken : Option Keys → Plan = λ master. takes_under from table master place next in
     let m = lock_there table lock taken told done in
     let o = lock_reached table lock m.0 taken told m.1 in
-    let k = takes_there table m.0 place next told (ap (λ (a : Answer). a.status) (sym o) ∙ done) in
+    let k = takes_there from table m.0 place next told (ap (λ (a : Answer). a.status) (sym o) ∙ done) in
     (k.0, record { master = m.0; opens = m.1; lies = k.1 })
 
-pub behind_reached : (table : Table) (lock : Lock) (place : Place) (keys : Keys) (next : Keys → Plan) (told : Told) → LiesBehind table lock place told keys → answer (takes_locked table lock place next) told ≡ answer (next keys) (behind place.file told)
-behind_reached table lock place keys next told lies =
-    lock_reached table lock lies.master (λ master. takes_under table master place next) told lies.opens
-    ∙ takes_reached table lies.master place keys next told lies.lies
+pub behind_reached : (from : Origin) (table : Table) (lock : Lock) (place : Place) (keys : Keys) (next : Keys → Plan) (told : Told) → LiesBehind table lock place told keys → answer (takes_locked from table lock place next) told ≡ answer (next keys) (behind place.file told)
+behind_reached from table lock place keys next told lies =
+    lock_reached table lock lies.master (λ master. takes_under from table master place next) told lies.opens
+    ∙ takes_reached from table lies.master place keys next told lies.lies
 
 -- that of a file
 pub loads_there : (table : Table) (lock : Lock) (name : List ℕ) (form : Format) (next : Keys → Plan) (told : Told) → IsDoneAnswer (answer (loads_locked table lock name form next) told) → (keys : Keys) × LiesBehind table lock (record { file = Some name; form = form }) told keys
-loads_there table lock name form next told done = behind_there table lock (record { file = Some name; form = form }) next told done
+loads_there table lock name form next told done = behind_there origins.Keyset table lock (record { file = Some name; form = form }) next told done
 
 pub loads_reached : (table : Table) (lock : Lock) (name : List ℕ) (form : Format) (keys : Keys) (next : Keys → Plan) (told : Told) → LiesBehind table lock (record { file = Some name; form = form }) told keys → answer (loads_locked table lock name form next) told ≡ answer (next keys) told
-loads_reached table lock name form keys next told lies = behind_reached table lock (record { file = Some name; form = form }) keys next told lies
+loads_reached table lock name form keys next told lies = behind_reached origins.Keyset table lock (record { file = Some name; form = form }) keys next told lies
 
 pub behind_faultless : (table : Table) (lock : Lock) (place : Place) (told : Told) (keys : Keys) → LiesBehind table lock place told keys → fault_of keys ≡ None
 behind_faultless table lock place told keys lies = given_faultless table lies.master place.form lies.lies.bytes keys lies.lies.gives

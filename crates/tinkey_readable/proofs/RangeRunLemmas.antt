@@ -50,5 +50,5 @@ puts_reached None bytes told free = refl
 pub stretch_reached : (keys : KeysForStreams) (ad stream : List ℕ) (range : AskedRange) (out : Option (List ℕ)) (told : Told) (opened : Opened) → map.get told.files range.file ≡ Some stream → range_of (ciphers_of ad keys.keys) stream range.from (range.from + range.size) ≡ opened
     → answer (opens_stretch keys ad range (puts out)) told ≡ answer (with_stretch opened (puts out)) told
 stretch_reached keys ad stream range out told opened there is =
-    ap (λ (found : Option (List ℕ)). range_answer found (stretch_for keys ad range) (refused told status.InMissing) (λ o. answer (with_stretch o (puts out)) told)) there
+    ap (λ (found : Option (List ℕ)). range_answer found (stretch_for keys ad range) (refused told status.StreamMissing) (λ o. answer (with_stretch o (puts out)) told)) there
     ∙ ap (λ (o : Opened). answer (with_stretch o (puts out)) told) is

@@ -19,6 +19,9 @@ use Rattle.tinkey_session.specs.Serving.{edit_named, or_refused}
 use Rattle.tinkey_session.specs.declared.reply.Refusal.{Refusal}
 use Rattle.wrapped_prims.specs.Fitness.{Unfit, unfit}
 use Rattle.seal_wrap.specs.Unwrapped.{is_wrapped_binary, is_wrapped_json}
+use Rattle.tinkey_plans.specs.Origins.{begins_of}
+use Rattle.tinkey_plans.specs.declared.origin.Origin.{Origin}
+use Rattle.tinkey_plans.specs.declared.origin.Origin.TheVariants as origins
 use Rattle.tinkey_plans.specs.declared.status.Status.TheVariants as status
 use Rattle.tinkey_words.specs.declared.words.rows.Format.{Format}
 use Rattle.tinkey_words.specs.declared.words.rows.Format.TheVariants as formats
@@ -50,9 +53,9 @@ same_ok : {A E : Type 0} (r : Result A E) (x : A) → result_ok r ≡ Some x →
 same_ok (Ok y) x e = let h : y ≡ x = cc in ap Ok h
 same_ok (Err y) x e = clash e
 
-pub keyset_reached : (form : Format) (bytes : List ℕ) (keys : Keys) (next : Keys → Plan) (told : Told) → read_in form bytes ≡ Some keys → answer (keyset_in form bytes next) told ≡ answer (next keys) told
-keyset_reached formats.Json bytes keys next told e = ap (λ r. answer (with_json (is_wrapped_json bytes) r next) told) (same_ok (reads_json bytes) keys e)
-keyset_reached formats.Binary bytes keys next told e = ap (λ r. answer (with_keyset (is_wrapped_binary bytes) r next) told) (same_ok (reads_binary bytes) keys e)
+pub keyset_reached : (from : Origin) (form : Format) (bytes : List ℕ) (keys : Keys) (next : Keys → Plan) (told : Told) → read_in form bytes ≡ Some keys → answer (keyset_in from form bytes next) told ≡ answer (next keys) told
+keyset_reached from formats.Json bytes keys next told e = ap (λ r. answer (with_json from (begins_of bytes) (is_wrapped_json bytes) r next) told) (same_ok (reads_json bytes) keys e)
+keyset_reached from formats.Binary bytes keys next told e = ap (λ r. answer (with_keyset from (begins_of bytes) (is_wrapped_binary bytes) r next) told) (same_ok (reads_binary bytes) keys e)
 
 -- within its limit a file is loaded
 pub loaded : (found : Option (List ℕ)) (bytes : List ℕ) (limit : ℕ) (absent long : Answer) (next : List ℕ → Answer) → found ≡ Some bytes → length bytes ≤ limit → load_answer found limit absent long next ≡ next bytes
@@ -70,22 +73,22 @@ loaded_within found bytes limit absent long next is other done =
     let e = ap (λ f. load_answer f limit absent long next) is in
     leb-true (length bytes) limit (went_test (nat_le (length bytes) limit) (next bytes) long other (ap (λ (a : Answer). a.status) (sym e) ∙ done))
 
-pub load_reached : (name : List ℕ) (form : Format) (bytes : List ℕ) (keys : Keys) (next : Keys → Plan) (told : Told) → map.get told.files name ≡ Some bytes → read_in form bytes ≡ Some keys → length bytes ≤ keyset_limit
-    → answer (loads_keyset name form next) told ≡ answer (next keys) told
-load_reached name form bytes keys next told there e within =
-    loaded (map.get told.files name) bytes keyset_limit (refused told status.InMissing) (refused told status.KeysetTooLong) (λ b. answer (keyset_in form b next) told) there within
-    ∙ keyset_reached form bytes keys next told e
+pub load_reached : (from : Origin) (name : List ℕ) (form : Format) (bytes : List ℕ) (keys : Keys) (next : Keys → Plan) (told : Told) → map.get told.files name ≡ Some bytes → read_in form bytes ≡ Some keys → length bytes ≤ keyset_limit
+    → answer (loads_keyset from name form next) told ≡ answer (next keys) told
+load_reached from name form bytes keys next told there e within =
+    loaded (map.get told.files name) bytes keyset_limit (refused told (status.InMissing from)) (refused told status.KeysetTooLong) (λ b. answer (keyset_in from form b next) told) there within
+    ∙ keyset_reached from form bytes keys next told e
 
-pub load_done : (name : List ℕ) (form : Format) (bytes : List ℕ) (keys : Keys) (next : Keys → Plan) (told : Told) → map.get told.files name ≡ Some bytes → read_in form bytes ≡ Some keys → IsDoneAnswer (answer (loads_keyset name form next) told)
-    → answer (loads_keyset name form next) told ≡ answer (next keys) told
-load_done name form bytes keys next told there e done =
-    loaded_done (map.get told.files name) bytes keyset_limit (refused told status.InMissing) (refused told status.KeysetTooLong) (λ b. answer (keyset_in form b next) told) there (λ h. absurd (cc)) done
-    ∙ keyset_reached form bytes keys next told e
+pub load_done : (from : Origin) (name : List ℕ) (form : Format) (bytes : List ℕ) (keys : Keys) (next : Keys → Plan) (told : Told) → map.get told.files name ≡ Some bytes → read_in form bytes ≡ Some keys → IsDoneAnswer (answer (loads_keyset from name form next) told)
+    → answer (loads_keyset from name form next) told ≡ answer (next keys) told
+load_done from name form bytes keys next told there e done =
+    loaded_done (map.get told.files name) bytes keyset_limit (refused told (status.InMissing from)) (refused told status.KeysetTooLong) (λ b. answer (keyset_in from form b next) told) there (λ h. absurd (cc)) done
+    ∙ keyset_reached from form bytes keys next told e
 
 -- what was loaded is within the limit
-pub load_within : (name : List ℕ) (form : Format) (bytes : List ℕ) (next : Keys → Plan) (told : Told) → map.get told.files name ≡ Some bytes → IsDoneAnswer (answer (loads_keyset name form next) told) → length bytes ≤ keyset_limit
-load_within name form bytes next told there done =
-    loaded_within (map.get told.files name) bytes keyset_limit (refused told status.InMissing) (refused told status.KeysetTooLong) (λ b. answer (keyset_in form b next) told) there (λ h. absurd (cc)) done
+pub load_within : (from : Origin) (name : List ℕ) (form : Format) (bytes : List ℕ) (next : Keys → Plan) (told : Told) → map.get told.files name ≡ Some bytes → IsDoneAnswer (answer (loads_keyset from name form next) told) → length bytes ≤ keyset_limit
+load_within from name form bytes next told there done =
+    loaded_within (map.get told.files name) bytes keyset_limit (refused told (status.InMissing from)) (refused told status.KeysetTooLong) (λ b. answer (keyset_in from form b next) told) there (λ h. absurd (cc)) done
 
 -- the told that is left behind a keyset: the input is gone where that was the keyset
 abbrev pub behind : Option (List ℕ) → Told → Told
@@ -95,26 +98,26 @@ behind None told = record told { input = [] }
 read_done : (form : Format) (keys : Keys) (next : Keys → Plan) (told : Told) → read_in form told.input ≡ Some keys → IsDoneAnswer (answer (reads_keyset form next) told)
     → answer (reads_keyset form next) told ≡ answer (next keys) (record told { input = [] })
 read_done form keys next told e done =
-    went_done (nat_le (length told.input) keyset_limit) (answer (keyset_in form told.input next) (record told { input = [] })) (record (refused told status.KeysetTooLong) { input = Some (drop (keyset_limit + 1) told.input) }) (λ h. absurd (cc)) done
-    ∙ keyset_reached form told.input keys next (record told { input = [] }) e
+    went_done (nat_le (length told.input) keyset_limit) (answer (keyset_in origins.StandardInput form told.input next) (record told { input = [] })) (record (refused told status.KeysetTooLong) { input = Some (drop (keyset_limit + 1) told.input) }) (λ h. absurd (cc)) done
+    ∙ keyset_reached origins.StandardInput form told.input keys next (record told { input = [] }) e
 
 pub taken_done : (place : Place) (bytes : List ℕ) (keys : Keys) (next : Keys → Plan) (told : Told) → bytes_at place.file told.files told.input ≡ Some bytes → read_in place.form bytes ≡ Some keys → IsDoneAnswer (answer (takes_keyset place next) told)
     → answer (takes_keyset place next) told ≡ answer (next keys) (behind place.file told)
 taken_done place bytes keys next told there e done = by_file place.file there done
   where
-    by_file : (file : Option (List ℕ)) → bytes_at file told.files told.input ≡ Some bytes → IsDoneAnswer (answer (keyset_at file place.form next) told) → answer (keyset_at file place.form next) told ≡ answer (next keys) (behind file told)
-    by_file (Some name) there done = load_done name place.form bytes keys next told there e done
+    by_file : (file : Option (List ℕ)) → bytes_at file told.files told.input ≡ Some bytes → IsDoneAnswer (answer (keyset_at origins.In file place.form next) told) → answer (keyset_at origins.In file place.form next) told ≡ answer (next keys) (behind file told)
+    by_file (Some name) there done = load_done origins.In name place.form bytes keys next told there e done
     by_file None there done = let same : told.input ≡ bytes = cc in read_done place.form keys next told (ap (read_in place.form) same ∙ e) done
 
 -- what was taken is within the limit
 pub taken_within : (place : Place) (bytes : List ℕ) (next : Keys → Plan) (told : Told) → bytes_at place.file told.files told.input ≡ Some bytes → IsDoneAnswer (answer (takes_keyset place next) told) → length bytes ≤ keyset_limit
 taken_within place bytes next told there done = by_file place.file there done
   where
-    by_file : (file : Option (List ℕ)) → bytes_at file told.files told.input ≡ Some bytes → IsDoneAnswer (answer (keyset_at file place.form next) told) → length bytes ≤ keyset_limit
-    by_file (Some name) there done = load_within name place.form bytes next told there done
+    by_file : (file : Option (List ℕ)) → bytes_at file told.files told.input ≡ Some bytes → IsDoneAnswer (answer (keyset_at origins.In file place.form next) told) → length bytes ≤ keyset_limit
+    by_file (Some name) there done = load_within origins.In name place.form bytes next told there done
     by_file None there done =
         let same : told.input ≡ bytes = cc in
-        let all = went_test (nat_le (length told.input) keyset_limit) (answer (keyset_in place.form told.input next) (record told { input = [] })) (record (refused told status.KeysetTooLong) { input = Some (drop (keyset_limit + 1) told.input) }) (λ h. absurd (cc)) done in
+        let all = went_test (nat_le (length told.input) keyset_limit) (answer (keyset_in origins.StandardInput place.form told.input next) (record told { input = [] })) (record (refused told status.KeysetTooLong) { input = Some (drop (keyset_limit + 1) told.input) }) (λ h. absurd (cc)) done in
         subst (λ b. length b ≤ keyset_limit) same (leb-true (length told.input) keyset_limit all)
 
 -- ---- an edit
@@ -243,17 +246,17 @@ use_done table work next keys told done =
 pub used_done : (table : Table) (name : List ℕ) (form : Format) (work : AskedWork) (next : List ℕ → Plan) (bytes : List ℕ) (keys : Keys) (told : Told) → map.get told.files name ≡ Some bytes → read_in form bytes ≡ Some keys → IsDoneAnswer (answer (use_output table None name form work next) told)
     → UsedKeys table keys work next told (answer (use_output table None name form work next) told)
 used_done table name form work next bytes keys told there e done =
-    let l = load_done name form bytes keys (λ k. handles table (primitive_for work) k (λ fit. work_behind table k work next)) told there e done in
+    let l = load_done origins.Keyset name form bytes keys (λ k. handles table (primitive_for work) k (λ fit. work_behind table k work next)) told there e done in
     let u = use_done table work next keys told (ap (λ (a : Answer). a.status) (sym l) ∙ done) in
     record { fit = u.fit; fits = u.fits; goes_on = l ∙ u.goes_on }
 
 pub used_within : (table : Table) (name : List ℕ) (form : Format) (work : AskedWork) (next : List ℕ → Plan) (bytes : List ℕ) (told : Told) → map.get told.files name ≡ Some bytes → IsDoneAnswer (answer (use_output table None name form work next) told) → length bytes ≤ keyset_limit
-used_within table name form work next bytes told there done = load_within name form bytes (λ k. handles table (primitive_for work) k (λ fit. work_behind table k work next)) told there done
+used_within table name form work next bytes told there done = load_within origins.Keyset name form bytes (λ k. handles table (primitive_for work) k (λ fit. work_behind table k work next)) told there done
 
 pub used_reached : (table : Table) (name : List ℕ) (form : Format) (work : AskedWork) (next : List ℕ → Plan) (bytes : List ℕ) (keys : Keys) (told : Told) → map.get told.files name ≡ Some bytes → read_in form bytes ≡ Some keys → length bytes ≤ keyset_limit
     → unfit keys (primitive_for work) table ≡ None → length told.input ≤ limit_for work
     → answer (use_output table None name form work next) told ≡ answer (works table keys work told.input next) (record told { input = [] })
 used_reached table name form work next bytes keys told there e within fit fits =
-    load_reached name form bytes keys (λ k. handles table (primitive_for work) k (λ x. work_behind table k work next)) told there e within
+    load_reached origins.Keyset name form bytes keys (λ k. handles table (primitive_for work) k (λ x. work_behind table k work next)) told there e within
     ∙ ap (λ u. answer (unless_unfit u (work_behind table keys work next)) told) fit
     ∙ input_reached (limit_for work) (λ input. works table keys work input next) told fits

@@ -19,6 +19,7 @@ use Rattle.tinkey_session.specs.TalkLaws.{TalkIsTurns}
 use Rattle.tinkey_session.specs.Talking.{Stop, goes, wants, passes, long_line, many_lines, Talk, talk}
 use Rattle.wrapped_prims.specs.Fitness.{Unfit, unfit}
 use Rattle.wrapped_prims.specs.Laws.{IsKeyset}
+use Rattle.tinkey_plans.specs.declared.origin.Origin.TheVariants as origins
 use Rattle.tinkey_plans.specs.declared.status.Status.{Status}
 use Rattle.tinkey_plans.specs.declared.status.Status.TheVariants as status
 use Rattle.tinkey_words.specs.declared.words.rows.Format.{Format}
@@ -170,19 +171,19 @@ replied opens dopens opens_present dopens_present verifies law table master out 
 -- behind the text that is taken
 text_replied : SessionOpens → SessionDopens → SessionOpensPresent → SessionDopensPresent → SessionVerifies → TalkIsTurns → ReadKeysFit → (table : Table) (master : Option Keys) (name : List ℕ) (form : Format) (out : Place) (bytes : List ℕ) (keys : Keys) (told : Told) (old : World) (s : Status) (new : World)
     → map.get told.files name ≡ Some bytes → GivesKeyset table master form bytes keys → IsStated s
-    → IsAnswer (answer (takes_under table master (record { file = Some name; form = form }) (holds_session table master out)) told) old s new → HasReplies table keys told old s new
+    → IsAnswer (answer (takes_under origins.Keyset table master (record { file = Some name; form = form }) (holds_session table master out)) told) old s new → HasReplies table keys told old s new
 text_replied opens dopens opens_present dopens_present verifies law fit table master name form out bytes keys told old s new there gives stated a = by (nat_le (length bytes) (limit_under master)) refl (rw there at a)
   where
-    by : (t : Bool) → nat_le (length bytes) (limit_under master) ≡ t → IsAnswer (if t then answer (keyset_under table master form bytes (holds_session table master out)) told else refused told status.KeysetTooLong) old s new → HasReplies table keys told old s new
+    by : (t : Bool) → nat_le (length bytes) (limit_under master) ≡ t → IsAnswer (if t then answer (keyset_under origins.Keyset table master form bytes (holds_session table master out)) told else refused told status.KeysetTooLong) old s new → HasReplies table keys told old s new
     by true is a =
         replied opens dopens opens_present dopens_present verifies law table master out keys told old s new (given_is_keyset fit table master form bytes keys gives (grind (arith, nat_tests, is))) stated
-        (subst (λ x. IsAnswer x old s new) (keyset_given table master form bytes keys (holds_session table master out) told gives) a)
+        (subst (λ x. IsAnswer x old s new) (keyset_given origins.Keyset table master form bytes keys (holds_session table master out) told gives) a)
     by false is a =
         none_replied table keys told old s new (λ h. let clash : status.Done ≡ status.KeysetTooLong = sym h ∙ a.status in absurd (cc)) (not_unwritten s stated) a.output
 
 -- behind a lock
 lock_replied : (table : Table) (lock : Master) (bytes : List ℕ) (over : Keys) (next : Option Keys → Plan) (keys : Keys) (told : Told) (old : World) (s : Status) (new : World)
-    → map.get told.files lock.file ≡ Some bytes → read_in lock.form bytes ≡ Some over → IsStated s → IsAnswer (answer (opens_master table lock next) told) old s new
+    → map.get told.files lock.file ≡ Some bytes → read_in lock.form bytes ≡ Some over → IsStated s → IsAnswer (answer (opens_master origins.Master table lock next) told) old s new
     → (IsAnswer (answer (next (Some over)) told) old s new → HasReplies table keys told old s new) → HasReplies table keys told old s new
 lock_replied table lock bytes over next keys told old s new there read stated a later = by (nat_le (length bytes) keyset_limit) (rw there at a)
   where
@@ -196,8 +197,8 @@ lock_replied table lock bytes over next keys told old s new there read stated a 
     by_fit None a = later a
     by_fit (Some found) a = none (status.Refused (cannot_serve found.0 found.1)) (λ h. absurd (cc)) a.status a.output
 
-    by : (t : Bool) → IsAnswer (if t then answer (keyset_in lock.form bytes fits) told else refused told status.KeysetTooLong) old s new → HasReplies table keys told old s new
-    by true a = by_fit (unfit over Aead table) (subst (λ x. IsAnswer x old s new) (keyset_reached lock.form bytes over fits told read) a)
+    by : (t : Bool) → IsAnswer (if t then answer (keyset_in origins.Master lock.form bytes fits) told else refused told status.KeysetTooLong) old s new → HasReplies table keys told old s new
+    by true a = by_fit (unfit over Aead table) (subst (λ x. IsAnswer x old s new) (keyset_reached origins.Master lock.form bytes over fits told read) a)
     by false a = none status.KeysetTooLong (λ h. absurd (cc)) a.status a.output
 
 pub readable_answer : SessionOpens → SessionDopens → SessionOpensPresent → SessionDopensPresent → SessionVerifies → TalkIsTurns → ReadKeysFit → AnswersAreReadable
@@ -207,7 +208,7 @@ readable_answer opens dopens opens_present dopens_present verifies law fit table
 }
   where
     text : (told : Told) (master : Option Keys) (name : List ℕ) (form : Format) (out : Place) (keys : Keys) (bytes : List ℕ) → map.get told.files name ≡ Some bytes → GivesKeyset table master form bytes keys
-        → IsAnswer (answer (takes_under table master (record { file = Some name; form = form }) (holds_session table master out)) told) old s new → HasReplies table keys told old s new
+        → IsAnswer (answer (takes_under origins.Keyset table master (record { file = Some name; form = form }) (holds_session table master out)) told) old s new → HasReplies table keys told old s new
     text told master name form out keys bytes there gives a = text_replied opens dopens opens_present dopens_present verifies law fit table master name form out bytes keys told old s new there gives stated a
 
     by : (told : Told) (lock : Lock) (name : List ℕ) (form : Format) (out : Place) (keys : Keys) (bytes : List ℕ) → map.get told.files name ≡ Some bytes → (master : Option Keys) → MasterThere lock told master → GivesKeyset table master form bytes keys
@@ -216,5 +217,5 @@ readable_answer opens dopens opens_present dopens_present verifies law fit table
     by told None name form out keys bytes there (Some over) read gives a = absurd read
     by told (Some lock) name form out keys bytes there None read gives a = absurd read
     by told (Some lock) name form out keys bytes there (Some over) (of_lock, lies, read) gives a =
-        lock_replied table lock of_lock over (λ master. takes_under table master (record { file = Some name; form = form }) (holds_session table master out)) keys told old s new lies read stated a
+        lock_replied table lock of_lock over (λ master. takes_under origins.Keyset table master (record { file = Some name; form = form }) (holds_session table master out)) keys told old s new lies read stated a
         (λ later. text told (Some over) name form out keys bytes there gives later)

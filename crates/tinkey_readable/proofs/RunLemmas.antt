@@ -38,6 +38,7 @@ use Rattle.wrapped_prims.specs.Answers.{Sealed, dseal_answer, seal_answer, tag_a
 use Rattle.wrapped_prims.specs.Laws.{IsKeyset}
 use Rattle.wrapped_prims.specs.Making.{HasWordId}
 use Rattle.wrapped_prims.specs.Fitness.{unfit}
+use Rattle.tinkey_plans.specs.declared.origin.Origin.TheVariants as origins
 use Rattle.tinkey_plans.specs.declared.status.Status.TheVariants as status
 use Rattle.tinkey_words.specs.declared.words.rows.Format.{Format}
 use Rattle.tinkey_words.specs.declared.words.rows.Format.TheVariants as formats
@@ -274,7 +275,7 @@ session_step : FaultlessKeysets → BinaryBack → JsonBack → TalkIsTurns → 
     → AllByRecursion (λ b. b < 256) told.random → keyset_of before ≡ Some old → AreStored old
     → Gives table (record { asked = session None name form out; told = told }) old after
 session_step law binary json turns sessions edited keeps table name form out file told before after old named done form_is read put_form put random is stored =
-    let l = load_done name form before.bytes old (holds_session table None out) told read (ap (λ x. read_in x before.bytes) form_is ∙ is) done in
+    let l = load_done origins.Keyset name form before.bytes old (holds_session table None out) told read (ap (λ x. read_in x before.bytes) form_is ∙ is) done in
     let whole : IsDoneAnswer (answer (holds_session table None out old) told) = ap (λ (a : Answer). a.status) (sym l) ∙ done in
     let free = free_done out.file (λ free. exchanges (talk table old) (saves table None out)) told whole in
     let d = talk_done turns table None out old told (ap (λ (a : Answer). a.status) (sym free) ∙ whole) in
@@ -347,7 +348,7 @@ asked_within table (session None name form out) told bytes h e done read = by_fi
   where
     by_file : (f : Option (List ℕ)) → session_handing name form out f ≡ Some h → length bytes ≤ keyset_limit
     by_file None e = clash e
-    by_file (Some file) e = load_within name form bytes (holds_session table None out) told (ap (λ (x : Handing). bytes_at x.taken.file told.files told.input) (same_Some _ _ e) ∙ read) done
+    by_file (Some file) e = load_within origins.Keyset name form bytes (holds_session table None out) told (ap (λ (x : Handing). bytes_at x.taken.file told.files told.input) (same_Some _ _ e) ∙ read) done
 asked_within table (edit_keyset (Some master) edit in' out) told bytes h e done read = clash e
 asked_within table (convert_keyset (Some master) how in' out) told bytes h e done read = clash e
 asked_within table (convert_keyset None in_clear in' out) told bytes h e done read = clash e

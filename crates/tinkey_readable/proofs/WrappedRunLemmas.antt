@@ -24,10 +24,13 @@ use Rattle.wrapped_prims.specs.Answers.{Sealed, seal_answer, seal_behind, seal_u
 use Rattle.wrapped_prims.specs.Candidates.{prefix_bytes, prefix_of}
 use Rattle.wrapped_prims.specs.Fitness.{key_of_record, unfit}
 use Rattle.wrapped_prims.specs.Laws.{GivesKeyFor, HasSameKey}
+use Rattle.tinkey_plans.specs.Origins.{begins_of}
+use Rattle.tinkey_plans.specs.declared.origin.Origin.{Origin}
+use Rattle.tinkey_plans.specs.declared.origin.Origin.TheVariants as origins
 use Rattle.tinkey_plans.specs.declared.status.Status.TheVariants as status
 use Rattle.tinkey_plans.specs.Commands.{command_plan}
 use Rattle.tinkey_plans.specs.Plan.{Answer, Plan, Told, answer, draw_answer, ends, refused}
-use Rattle.tinkey_plans.specs.Steps.{keyset_limit, puts, puts_keyset, takes_keyset, with_made, within_limit, writes_keyset, written_in}
+use Rattle.tinkey_plans.specs.Steps.{keyset_limit, origin_of, puts, puts_keyset, takes_bytes, takes_keyset, with_made, within_limit, writes_keyset, written_in}
 use Rattle.tinkey_plans.specs.Handles.{handles, unless_unfit}
 use Rattle.tinkey_plans.specs.Wrapping.{as_wrapping, is_json, is_keyset, keyset_sealer, makes_wrapped, takes_wrapped, unwraps, with_unwrapped, wrapped_limit}
 use Rattle.tinkey_words.specs.Words.{Asked, Place, unwrap_keyset, wrap_keyset}
@@ -52,20 +55,20 @@ within_done limit next bytes told done = by (nat_le (length bytes) limit) refl d
     by false is done = absurd (cc)
 
 -- a wrapped text in a file, or from the input
-pub text_done : (file : Option (List ℕ)) (bytes : List ℕ) (next : List ℕ → Plan) (told : Told) → bytes_at file told.files told.input ≡ Some bytes → IsDoneAnswer (answer (takes_wrapped file next) told)
-    → answer (takes_wrapped file next) told ≡ answer (next bytes) (behind file told)
-text_done (Some name) bytes next told there done =
-    loaded_done (map.get told.files name) bytes wrapped_limit (refused told status.InMissing) (refused told status.KeysetTooLong) (λ b. answer (next b) told) there (λ h. absurd (cc)) done
-text_done None bytes next told there done =
+pub text_done : (from : Origin) (file : Option (List ℕ)) (bytes : List ℕ) (next : List ℕ → Plan) (told : Told) → bytes_at file told.files told.input ≡ Some bytes → IsDoneAnswer (answer (takes_bytes from wrapped_limit file next) told)
+    → answer (takes_bytes from wrapped_limit file next) told ≡ answer (next bytes) (behind file told)
+text_done from (Some name) bytes next told there done =
+    loaded_done (map.get told.files name) bytes wrapped_limit (refused told (status.InMissing from)) (refused told status.KeysetTooLong) (λ b. answer (next b) told) there (λ h. absurd (cc)) done
+text_done from None bytes next told there done =
     let same : told.input ≡ bytes = cc in
     went_done (nat_le (length told.input) wrapped_limit) (answer (next told.input) (record told { input = [] })) (record (refused told status.KeysetTooLong) { input = Some (drop (wrapped_limit + 1) told.input) }) (λ h. absurd (cc)) done
     ∙ ap (λ b. answer (next b) (record told { input = [] })) same
 
-pub text_reached : (file : Option (List ℕ)) (bytes : List ℕ) (next : List ℕ → Plan) (told : Told) → bytes_at file told.files told.input ≡ Some bytes → length bytes ≤ wrapped_limit
-    → answer (takes_wrapped file next) told ≡ answer (next bytes) (behind file told)
-text_reached (Some name) bytes next told there within =
-    loaded (map.get told.files name) bytes wrapped_limit (refused told status.InMissing) (refused told status.KeysetTooLong) (λ b. answer (next b) told) there within
-text_reached None bytes next told there within =
+pub text_reached : (from : Origin) (file : Option (List ℕ)) (bytes : List ℕ) (next : List ℕ → Plan) (told : Told) → bytes_at file told.files told.input ≡ Some bytes → length bytes ≤ wrapped_limit
+    → answer (takes_bytes from wrapped_limit file next) told ≡ answer (next bytes) (behind file told)
+text_reached from (Some name) bytes next told there within =
+    loaded (map.get told.files name) bytes wrapped_limit (refused told (status.InMissing from)) (refused told status.KeysetTooLong) (λ b. answer (next b) told) there within
+text_reached from None bytes next told there within =
     let same : told.input ≡ bytes = cc in
     went_on (nat_le (length told.input) wrapped_limit) (answer (next told.input) (record told { input = [] })) (record (refused told status.KeysetTooLong) { input = Some (drop (wrapped_limit + 1) told.input) }) (let fits = subst (λ b. length b ≤ wrapped_limit) (sym same) within in grind (arith, nat_tests, fits))
     ∙ ap (λ b. answer (next b) (record told { input = [] })) same
@@ -120,7 +123,7 @@ wrap_done : (name : List ℕ) (form : Format) (in' out : Place) (told : Told) (m
     → WasWrapped out.form told master before text old keys
 wrap_done name form in' out told master before text old keys of_master lies is_master is done in_form read out_form put =
     let next : Keys → Plan = λ m. handles standard_table Aead m (λ fit. behind_master in' out m) in
-    let l = load_done name form master.bytes old next told lies (ap (λ f. read_in f master.bytes) of_master ∙ is_master) done in
+    let l = load_done origins.OnlyMaster name form master.bytes old next told lies (ap (λ f. read_in f master.bytes) of_master ∙ is_master) done in
     let d : IsDoneAnswer (answer (unless_unfit (unfit old Aead standard_table) (behind_master in' out old)) told) = ap (λ (a : Answer). a.status) (sym l) ∙ done in
     let fit = unfit_done (unfit old Aead standard_table) (behind_master in' out old) told d in
     let f : answer (unless_unfit (unfit old Aead standard_table) (behind_master in' out old)) told ≡ answer (behind_master in' out old) told = ap (λ u. answer (unless_unfit u (behind_master in' out old)) told) fit in
@@ -137,7 +140,7 @@ wrap_done name form in' out told master before text old keys of_master lies is_m
     let p = bytes_put out.file m.wrapped.text left (ap (λ (a : Answer). a.status) (sym whole) ∙ done) in
     let same : m.wrapped.text ≡ text.bytes = same_Some _ _ (sym p ∙ ap (λ (a : Answer). bytes_at out.file a.files a.output) (sym whole) ∙ put) in
     record {
-      master_within = load_within name form master.bytes next told lies done;
+      master_within = load_within origins.OnlyMaster name form master.bytes next told lies done;
       fit = fit;
       within = taken_within in' before.bytes rest told read e;
       binary_within = w.0;
@@ -186,10 +189,10 @@ unwrapped law binary json stored back run master before text old new keys r pref
 -- ---- unwrapping
 
 abbrev pub opens_plan : Place → Place → Keys → Plan
-opens_plan in' out new = takes_wrapped in'.file (λ text. unwraps new standard_table in'.form text (puts_keyset out))
+opens_plan in' out new = takes_wrapped in'.file (λ text. unwraps (origin_of origins.In in'.file) new standard_table in'.form text (puts_keyset out))
 
-pub given_keyset : (new : Keys) (form : Format) (text : List ℕ) (keys : Keys) (next : Keys → Plan) (told : Told) → unwrap_of new standard_table text (is_json form) ≡ Ok keys → answer (unwraps new standard_table form text next) told ≡ answer (next keys) told
-given_keyset new form text keys next told is = ap (λ (o : Result Keys Refusal). answer (with_unwrapped (is_keyset form text) (keyset_sealer form new text) o next) told) is
+pub given_keyset : (from : Origin) (new : Keys) (form : Format) (text : List ℕ) (keys : Keys) (next : Keys → Plan) (told : Told) → unwrap_of new standard_table text (is_json form) ≡ Ok keys → answer (unwraps from new standard_table form text next) told ≡ answer (next keys) told
+given_keyset from new form text keys next told is = ap (λ (o : Result Keys Refusal). answer (with_unwrapped from (begins_of text) (is_keyset form text) (keyset_sealer form new text) o next) told) is
 
 -- what such a run put out is the keyset
 pub unwrap_keeps : FaultlessKeysets → BinaryBack → JsonBack → (unwrap : Run) (later text after : Written) (over keys : Keys) → Unwraps standard_table unwrap later text after → keyset_of later ≡ Some over → unwrap_of over standard_table text.bytes (is_json text.form) ≡ Ok keys → fault_of keys ≡ None → AreStored keys → Keeps keys after
@@ -200,13 +203,13 @@ unwrap_keeps law binary json unwrap later text after over keys x read gave fault
     let a : Asked → Answer = λ asked. answer (command_plan standard_table asked) told in
     let done : IsDoneAnswer (a (unwrap_keyset x.name later.form in' out)) = ap (λ asked. (a asked).status) (sym x.asked) ∙ x.handed.done in
     let next : Keys → Plan = λ m. handles standard_table Aead m (λ fit. opens_plan in' out m) in
-    let l = load_done x.name later.form later.bytes over next told x.lies read done in
+    let l = load_done origins.Master x.name later.form later.bytes over next told x.lies read done in
     let d : IsDoneAnswer (answer (unless_unfit (unfit over Aead standard_table) (opens_plan in' out over)) told) = ap (λ (a : Answer). a.status) (sym l) ∙ done in
     let fit = unfit_done (unfit over Aead standard_table) (opens_plan in' out over) told d in
     let f : answer (unless_unfit (unfit over Aead standard_table) (opens_plan in' out over)) told ≡ answer (opens_plan in' out over) told = ap (λ u. answer (unless_unfit u (opens_plan in' out over)) told) fit in
-    let t = text_done in'.file text.bytes (λ text. unwraps over standard_table in'.form text (puts_keyset out)) told x.handed.read (ap (λ (a : Answer). a.status) (sym (l ∙ f)) ∙ done) in
+    let t = text_done origins.In in'.file text.bytes (λ text. unwraps (origin_of origins.In in'.file) over standard_table in'.form text (puts_keyset out)) told x.handed.read (ap (λ (a : Answer). a.status) (sym (l ∙ f)) ∙ done) in
     let behind' = behind in'.file told in
-    let g = given_keyset over in'.form text.bytes keys (puts_keyset out) behind' (ap (λ f. unwrap_of over standard_table text.bytes (is_json f)) x.handed.read_form ∙ gave) in
+    let g = given_keyset (origin_of origins.In in'.file) over in'.form text.bytes keys (puts_keyset out) behind' (ap (λ f. unwrap_of over standard_table text.bytes (is_json f)) x.handed.read_form ∙ gave) in
     let whole = l ∙ f ∙ t ∙ g in
     let p = put_done out keys behind' (ap (λ (a : Answer). a.status) (sym whole) ∙ done) in
     kept law binary json keys out.form after

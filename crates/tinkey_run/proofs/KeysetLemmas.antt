@@ -12,6 +12,8 @@ use Rattle.keyset_model.specs.declared.reading.ReadError.TheVariants as errors
 use Rattle.tinkey_plans.specs.Ends.{World, Ends}
 use Rattle.tinkey_plans.specs.Plan.{Plan, allocates, ends}
 use Rattle.tinkey_plans.specs.Steps.{has_no_key, json_refusal_of, refusal_of, with_json, with_keyset, OrStarved}
+use Rattle.tinkey_plans.specs.declared.origin.Begins.{Begins}
+use Rattle.tinkey_plans.specs.declared.origin.Origin.{Origin}
 use Rattle.tinkey_plans.specs.declared.status.Status.{Status}
 use Rattle.tinkey_plans.specs.declared.status.Status.TheVariants as status
 
@@ -19,27 +21,27 @@ faulty : (b : Bool) (fault : KeysetFault) (w : World) → Ends (if b then ends (
 faulty true fault w = (refl, refl)
 faulty false fault w = (refl, refl)
 
-uncut : (b : Bool) (at : ℕ) (w : World) → Ends (if b then ends (status.ProtoLocked at) tt else ends (status.BadProto at) tt) w (if b then status.ProtoLocked at else status.BadProto at) w
-uncut true at w = (refl, refl)
-uncut false at w = (refl, refl)
+uncut : (from : Origin) (begins : Begins) (b : Bool) (at : ℕ) (w : World) → Ends (if b then ends (status.ProtoLocked at) tt else ends (status.BadProto at from begins) tt) w (if b then status.ProtoLocked at else status.BadProto at from begins) w
+uncut from begins true at w = (refl, refl)
+uncut from begins false at w = (refl, refl)
 
-json_so : (locked : Bool) (read : Result Keys json.Refusal) (e : JsonError) (w : World) → json.GivesKeyset (Err e) read → (next : Keys → Plan) → Ends (allocates (with_json locked read next)) w (json_refusal_of locked e) w
-json_so locked read json_errors.NotJson w is next = inl (rw is (refl, refl))
-json_so locked read (json_errors.Shape path) w is next = inl (rw is (refl, refl))
-json_so locked read (json_errors.Fault fault) w is next = inl (rw is (faulty (locked && has_no_key fault) fault w))
-json_so locked read json_errors.NoMemory w is next = inr (refl, refl)
+json_so : (from : Origin) (begins : Begins) (locked : Bool) (read : Result Keys json.Refusal) (e : JsonError) (w : World) → json.GivesKeyset (Err e) read → (next : Keys → Plan) → Ends (allocates (with_json from begins locked read next)) w (json_refusal_of from begins locked e) w
+json_so from begins locked read json_errors.NotJson w is next = inl (rw is (refl, refl))
+json_so from begins locked read (json_errors.Shape path) w is next = inl (rw is (refl, refl))
+json_so from begins locked read (json_errors.Fault fault) w is next = inl (rw is (faulty (locked && has_no_key fault) fault w))
+json_so from begins locked read json_errors.NoMemory w is next = inr (refl, refl)
 
 -- the status of a keyset that isn't read as JSON, or of want of memory
-pub json_refused : (locked : Bool) (read : Result Keys json.Refusal) (e : JsonError) (s : Status) (w : World) → OrStarved (json_refusal_of locked e) s → json.GivesKeyset (Err e) read → (next : Keys → Plan) → Ends (allocates (with_json locked read next)) w s w
-json_refused locked read e s w (inl is) why next = rw is (json_so locked read e w why next)
-json_refused locked read e s w (inr starved) why next = inr (starved, refl)
+pub json_refused : (from : Origin) (begins : Begins) (locked : Bool) (read : Result Keys json.Refusal) (e : JsonError) (s : Status) (w : World) → OrStarved (json_refusal_of from begins locked e) s → json.GivesKeyset (Err e) read → (next : Keys → Plan) → Ends (allocates (with_json from begins locked read next)) w s w
+json_refused from begins locked read e s w (inl is) why next = rw is (json_so from begins locked read e w why next)
+json_refused from begins locked read e s w (inr starved) why next = inr (starved, refl)
 
-binary_so : (locked : Bool → Bool) (read : Result Keys binary.Refusal) (e : ReadError) (w : World) → binary.GivesKeyset (Err e) read → (next : Keys → Plan) → Ends (allocates (with_keyset locked read next)) w (refusal_of locked e) w
-binary_so locked read (errors.Wire wire) w is next = inl (rw is (uncut (locked false) wire.at w))
-binary_so locked read (errors.Fault fault) w is next = inl (rw is (faulty (locked true) fault w))
-binary_so locked read errors.NoMemory w is next = inr (refl, refl)
+binary_so : (from : Origin) (begins : Begins) (locked : Bool → Bool) (read : Result Keys binary.Refusal) (e : ReadError) (w : World) → binary.GivesKeyset (Err e) read → (next : Keys → Plan) → Ends (allocates (with_keyset from begins locked read next)) w (refusal_of from begins locked e) w
+binary_so from begins locked read (errors.Wire wire) w is next = inl (rw is (uncut from begins (locked false) wire.at w))
+binary_so from begins locked read (errors.Fault fault) w is next = inl (rw is (faulty (locked true) fault w))
+binary_so from begins locked read errors.NoMemory w is next = inr (refl, refl)
 
 -- the same of one that isn't read in the binary form
-pub binary_refused : (locked : Bool → Bool) (read : Result Keys binary.Refusal) (e : ReadError) (s : Status) (w : World) → OrStarved (refusal_of locked e) s → binary.GivesKeyset (Err e) read → (next : Keys → Plan) → Ends (allocates (with_keyset locked read next)) w s w
-binary_refused locked read e s w (inl is) why next = rw is (binary_so locked read e w why next)
-binary_refused locked read e s w (inr starved) why next = inr (starved, refl)
+pub binary_refused : (from : Origin) (begins : Begins) (locked : Bool → Bool) (read : Result Keys binary.Refusal) (e : ReadError) (s : Status) (w : World) → OrStarved (refusal_of from begins locked e) s → binary.GivesKeyset (Err e) read → (next : Keys → Plan) → Ends (allocates (with_keyset from begins locked read next)) w s w
+binary_refused from begins locked read e s w (inl is) why next = rw is (binary_so from begins locked read e w why next)
+binary_refused from begins locked read e s w (inr starved) why next = inr (starved, refl)

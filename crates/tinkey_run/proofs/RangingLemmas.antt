@@ -21,7 +21,7 @@ use Rattle.tinkey_plans.specs.Stretch.{Opened, Stretch, GivesAtMost, HoldsStretc
 
 -- the step
 abbrev pub stretches : Stretch → (List ℕ → Plan) → Plan
-stretches x next = allocates (ranges x status.InMissing tt (λ opened. with_stretch opened next))
+stretches x next = allocates (ranges x status.StreamMissing tt (λ opened. with_stretch opened next))
 
 -- a stretch of a file was opened, or not, over a store that was asked for the file's size before
 pub record OpensFile (x : Stretch) (r : Result (Vec ℕ) RangeFault) (first mid last : StoreState) : Type 0 where

@@ -1,5 +1,5 @@
 -- Encrypted keysets, as steps.
-use Rattle.std.proofs.Common.{◌≡◌, ◌⊎◌, Bool, true, false, refl, ap, subst, inl, inr, ℕ, List, [], Option, Some, None, Result, Ok, Err}
+use Rattle.std.proofs.Common.{◌≡◌, Bool, true, false, refl, ap, inl, inr, ℕ, List, [], Option, Some, None, Result, Ok, Err}
 use Rattle.std.specs.Option.{option_map}
 use Rattle.keyset_model.specs.Keyset.{Keys}
 use Rattle.keyset_model.specs.declared.keyset.Keyset.{Keyset}
@@ -12,6 +12,8 @@ use Rattle.seal_wrap.specs.Wrapping.{IsRefusal, IsWrapping}
 use Rattle.seal_wrap.specs.declared.unwrapping.UnwrapFault.{UnwrapFault}
 use Rattle.seal_wrap.specs.declared.unwrapping.UnwrapFault.TheVariants as faults
 use Rattle.tink_spec.specs.Outside.{EntropyState, Stood}
+use Rattle.tinkey_plans.specs.declared.origin.Begins.{Begins}
+use Rattle.tinkey_plans.specs.declared.origin.Origin.{Origin}
 use Rattle.tinkey_plans.specs.declared.status.Status.{Status}
 use Rattle.tinkey_plans.specs.declared.status.Status.TheVariants as status
 use Rattle.wrapped_prims.specs.Sealing.{IsSealFault}
@@ -55,22 +57,22 @@ wrapped_passes keys master table form text old entropy (Err s) is stood passes =
 -- ---- unwrapping
 
 -- the keyset of a text, or why it gives none
-pub unwrapped_passes : (clear : Bool) (sealer : Sealer) (read : Result Keys Refusal) (keyset : Keyset) (w : World) → read ≡ Ok keyset → Passes (λ next. allocates (with_unwrapped clear sealer read next)) w (Ok keyset) w
-unwrapped_passes clear sealer read keyset w is = λ next s last run. inl (rw is run)
+pub unwrapped_passes : (from : Origin) (begins : Begins) (clear : Bool) (sealer : Sealer) (read : Result Keys Refusal) (keyset : Keyset) (w : World) → read ≡ Ok keyset → Passes (λ next. allocates (with_unwrapped from begins clear sealer read next)) w (Ok keyset) w
+unwrapped_passes from begins clear sealer read keyset w is = λ next s last run. inl (rw is run)
 
 unopened : (clear : Bool) (sealer : Sealer) (w : World) → Ends (ends_unopened clear sealer) w (unopened_status clear sealer) w
 unopened true sealer w = (refl, refl)
 unopened false sealer w = (refl, refl)
 
-refused_so : (clear : Bool) (sealer : Sealer) (read : Result Keys Refusal) (fault : UnwrapFault) (w : World) → IsRefusal fault read → (next : Keys → Plan) → Ends (allocates (with_unwrapped clear sealer read next)) w (unwrap_refusal clear sealer fault) w
-refused_so clear sealer read (faults.OuterWire at) w is next = inl (rw is (refl, refl))
-refused_so clear sealer read faults.NotJson w is next = inl (rw is (refl, refl))
-refused_so clear sealer read faults.Member w is next = inl (rw is (refl, refl))
-refused_so clear sealer read faults.NotOpened w is next = inl (rw is (unopened clear sealer w))
-refused_so clear sealer read (faults.InnerWire at) w is next = inl (rw is (refl, refl))
-refused_so clear sealer read (faults.Fault fault) w is next = inl (rw is (refl, refl))
-refused_so clear sealer read faults.NoMemory w is next = inr (refl, refl)
+refused_so : (from : Origin) (begins : Begins) (clear : Bool) (sealer : Sealer) (read : Result Keys Refusal) (fault : UnwrapFault) (w : World) → IsRefusal fault read → (next : Keys → Plan) → Ends (allocates (with_unwrapped from begins clear sealer read next)) w (unwrap_refusal from begins clear sealer fault) w
+refused_so from begins clear sealer read (faults.OuterWire at) w is next = inl (rw is (refl, refl))
+refused_so from begins clear sealer read faults.NotJson w is next = inl (rw is (refl, refl))
+refused_so from begins clear sealer read faults.Member w is next = inl (rw is (refl, refl))
+refused_so from begins clear sealer read faults.NotOpened w is next = inl (rw is (unopened clear sealer w))
+refused_so from begins clear sealer read (faults.InnerWire at) w is next = inl (rw is (refl, refl))
+refused_so from begins clear sealer read (faults.Fault fault) w is next = inl (rw is (refl, refl))
+refused_so from begins clear sealer read faults.NoMemory w is next = inr (refl, refl)
 
-pub not_unwrapped : (clear : Bool) (sealer : Sealer) (read : Result Keys Refusal) (fault : UnwrapFault) (s : Status) (w : World) → OrStarved (unwrap_refusal clear sealer fault) s → IsRefusal fault read → (next : Keys → Plan) → Ends (allocates (with_unwrapped clear sealer read next)) w s w
-not_unwrapped clear sealer read fault s w (inl is) why next = rw is (refused_so clear sealer read fault w why next)
-not_unwrapped clear sealer read fault s w (inr starved) why next = inr (starved, refl)
+pub not_unwrapped : (from : Origin) (begins : Begins) (clear : Bool) (sealer : Sealer) (read : Result Keys Refusal) (fault : UnwrapFault) (s : Status) (w : World) → OrStarved (unwrap_refusal from begins clear sealer fault) s → IsRefusal fault read → (next : Keys → Plan) → Ends (allocates (with_unwrapped from begins clear sealer read next)) w s w
+not_unwrapped from begins clear sealer read fault s w (inl is) why next = rw is (refused_so from begins clear sealer read fault w why next)
+not_unwrapped from begins clear sealer read fault s w (inr starved) why next = inr (starved, refl)

@@ -6,7 +6,7 @@ ghost use Rattle.keyset_model.specs.Keyset.{Keys};
 ghost use Rattle.managers.specs.Table.{Table};
 ghost use Rattle.tinkey_plans.specs.Commands.{command_plan};
 ghost use Rattle.tinkey_plans.specs.Ends.{world};
-ghost use Rattle.tinkey_plans.specs.Locks.{opens_new_lock, puts_under, takes_under, IsLock, IsSomeLock};
+ghost use Rattle.tinkey_plans.specs.Locks.{opens_new_lock, put_origin, puts_under, takes_under, IsLock, IsSomeLock};
 ghost use Rattle.tinkey_plans.specs.Steps.{Finishes};
 ghost use Rattle.tinkey_words.specs.Words.{convert_keyset, seen_lock, seen_new_lock, seen_place};
 
@@ -14,7 +14,7 @@ use crate::locks::{OpenMaster, open_lock, open_master, put_under, take_under};
 use managers::{KeyTable, Managers};
 use std::alloc::Global;
 use tink_base::{Entropy, Sink, Source, Store};
-use tinkey_plans::Status;
+use tinkey_plans::{Origin, Status};
 use tinkey_words::{Master, NewLock, Place};
 
 /// The keyset at one place, in clear or under the lock, put at another one, as the new lock says.
@@ -80,7 +80,7 @@ fn convert_under<S: Source, K: Sink, E: Entropy, D: Store>(
         )) lock.entry)
         (⟦<Managers as KeyTable>⟧.table managers.now) taken → Finishes
         (opens_new_lock (⟦<Managers as KeyTable>⟧.table managers.now) (seen_new_lock new.entry) taken (λ put.
-        takes_under (⟦<Managers as KeyTable>⟧.table managers.now) taken (seen_place input.entry)
+        takes_under Origin.In (⟦<Managers as KeyTable>⟧.table managers.now) taken (seen_place input.entry)
         (puts_under (⟦<Managers as KeyTable>⟧.table managers.now) put (seen_place output.entry))))
         (world (S.state source.old) (K.state sink.old) (D.state store.old) (E.state entropy.old)) result
         (world (S.state source.new) (K.state sink.new) (D.state store.new) (E.state entropy.new)) }
@@ -93,7 +93,7 @@ fn convert_under<S: Source, K: Sink, E: Entropy, D: Store>(
             alloc, lock, None, input, output, source, sink, entropy, store,
         ),
         NewLock::Under(master) => {
-            let put = open_master(alloc, managers, master, store)?;
+            let put = open_master(alloc, managers, put_origin(lock), master, store)?;
             convert(
                 alloc,
                 lock,
@@ -106,6 +106,22 @@ fn convert_under<S: Source, K: Sink, E: Entropy, D: Store>(
                 store,
             )
         }
+    }
+}
+
+/// The option that gives the master of a keyset that is put, by the lock of the one that is taken.
+fn put_origin(lock: Option<&OpenMaster<'_>>) -> Origin
+    ensures { (table : Table) (taken : Option Keys) → IsLock
+        (option_map (λ h. (
+          ⟦<Managers as KeyTable>⟧.table h.now.handle.managers.now,
+          h.now.keyset,
+          h.now.handle.held,
+        )) lock.entry)
+        table taken → result ≡ put_origin taken }
+{
+    match lock {
+        Some(_) => Origin::NewMaster,
+        None => Origin::OnlyMaster,
     }
 }
 
@@ -146,7 +162,7 @@ fn convert<S: Source, K: Sink, E: Entropy, D: Store>(
           h.now.handle.held,
         )) put.entry)
         table new → Finishes
-        (takes_under table old (seen_place input.entry) (puts_under table new (seen_place output.entry)))
+        (takes_under Origin.In table old (seen_place input.entry) (puts_under table new (seen_place output.entry)))
         (world (S.state source.old) (K.state sink.old) (D.state store.old) (E.state entropy.old)) result
         (world (S.state source.new) (K.state sink.new) (D.state store.new) (E.state entropy.new)) }
 {

@@ -19,7 +19,7 @@ use managers::{KeyTable, Managers};
 use std::alloc::Global;
 use tink_base::{Entropy, Sink, Source, Store};
 use tinkey_cmds::{Command, apply, create};
-use tinkey_plans::Status;
+use tinkey_plans::{Origin, Status};
 use tinkey_session::{find_edit, find_template};
 use tinkey_words::{Master, Place};
 
@@ -163,7 +163,7 @@ fn edit_under<S: Source, K: Sink, E: Entropy, D: Store>(
           h.now.handle.held,
         )) lock.entry)
         table master → Finishes
-        (takes_under table master (seen_place input.entry) (λ keys.
+        (takes_under Origin.In table master (seen_place input.entry) (λ keys.
         makes_keyset (step keys (seen_command edit.now))
         (puts_under table master (seen_place output.entry))))
         (world (S.state source.old) (K.state sink.old) (D.state store.old) (E.state entropy.old)) result

@@ -9,8 +9,8 @@ ghost use Rattle.wrapped_prims.specs.Making.{IsOver};
 ghost use Rattle.tinkey_plans.specs.Ends.{World};
 ghost use Rattle.tinkey_plans.specs.Handles.{IsServing};
 ghost use Rattle.tinkey_plans.specs.Locks.{keyset_under, limit_under, loads_locked, opens_lock, opens_master, puts_under, takes_locked, takes_under, writes_under, IsLock, IsSomeLock, PassesLock};
-ghost use Rattle.tinkey_plans.specs.Steps.{Finishes, Passes};
-ghost use Rattle.tinkey_words.specs.Words.{seen_lock, seen_master, seen_place};
+ghost use Rattle.tinkey_plans.specs.Steps.{origin_of, Finishes, Passes};
+ghost use Rattle.tinkey_words.specs.Words.{seen_lock, seen_master, seen_name, seen_place};
 
 use crate::output::{put, written};
 use crate::steps::{KEYSET_LIMIT, keyset_of, load_bytes, load_keyset, take_bytes};
@@ -21,7 +21,7 @@ use keyset_model::Keyset;
 use managers::{KeyTable, Managers};
 use std::alloc::Global;
 use tink_base::{Bytes, Entropy, Sink, Source, Store};
-use tinkey_plans::Status;
+use tinkey_plans::{Origin, Status};
 use tinkey_words::{Format, Master, Place};
 use wrapped_prims::Handle;
 
@@ -58,17 +58,18 @@ pub(crate) fn open_lock<'m, D: Store>(
 {
     match lock {
         Some(master) => {
-            let opened = open_master(alloc, managers, master, store)?;
+            let opened = open_master(alloc, managers, Origin::Master, master, store)?;
             Ok(Some(opened))
         }
         None => Ok(None),
     }
 }
 
-/// This master, whose ENABLED keys can all serve as an AEAD.
+/// This master, which this option gives, and whose ENABLED keys can all serve as an AEAD.
 pub(crate) fn open_master<'m, D: Store>(
     alloc: Global,
     managers: &'m Managers,
+    from: Origin,
     master: Master<'_>,
     store: &mut D,
 ) -> Result<OpenMaster<'m>, Status>
@@ -79,7 +80,7 @@ pub(crate) fn open_master<'m, D: Store>(
           h.handle.held,
         ))
         (⟦<Managers as KeyTable>⟧.table managers.now)
-        (opens_master (⟦<Managers as KeyTable>⟧.table managers.now) (seen_master master.entry))
+        (opens_master from (⟦<Managers as KeyTable>⟧.table managers.now) (seen_master master.entry))
         (record w { store = D.state store.old }) result (record w { store = D.state store.new }) }
     ensures some { IfOk result (λ h. IsSomeLock
         (Some (
@@ -88,7 +89,7 @@ pub(crate) fn open_master<'m, D: Store>(
           h.handle.held,
         ))) }
 {
-    let keyset = load_keyset(alloc, master.file, master.form, store)?;
+    let keyset = load_keyset(alloc, from, master.file, master.form, store)?;
     let handle = handle_of(alloc, &keyset, managers, Primitive::Aead)?;
     Ok(OpenMaster { keyset, handle })
 }
@@ -110,9 +111,10 @@ fn limit_under(lock: Option<&OpenMaster<'_>>) -> usize
     }
 }
 
-/// The keyset in these bytes, or that they give under the lock's master.
+/// The keyset in these bytes, which come from there, or that they give under the lock's master.
 fn keyset_under(
     alloc: Global,
+    from: Origin,
     lock: Option<&OpenMaster<'_>>,
     form: Format,
     bytes: &[u8],
@@ -136,16 +138,26 @@ fn keyset_under(
           h.now.keyset,
           h.now.handle.held,
         )) lock.entry)
-        table master → Passes (keyset_under table master form bytes.now) w result w }
+        table master → Passes (keyset_under from table master form bytes.now) w result w }
     ensures short { IfOk result (λ keyset. AllByRecursion IsShort keyset.records) }
 {
     match lock {
-        Some(master) => unwrap_under(alloc, master, bytes, form),
-        None => keyset_of(alloc, form, bytes),
+        Some(master) => unwrap_under(alloc, from, master, bytes, form),
+        None => keyset_of(alloc, from, form, bytes),
     }
 }
 
-/// The keyset at this place, in clear or under the lock.
+/// Where the keyset in the file that `--in` gives comes from, or in standard input if there is none.
+fn origin_of(file: Option<&str>) -> Origin
+    ensures { result ≡ origin_of Origin.In (seen_name file.entry) }
+{
+    match file {
+        Some(_) => Origin::In,
+        None => Origin::StandardInput,
+    }
+}
+
+/// The keyset at the place that `--in` gives, in clear or under the lock.
 #[inline(never)]
 pub(crate) fn take_under<S: Source, D: Store>(
     alloc: Global,
@@ -166,16 +178,22 @@ pub(crate) fn take_under<S: Source, D: Store>(
           h.now.keyset,
           h.now.handle.held,
         )) lock.entry)
-        table master → Passes (takes_under table master (seen_place place.entry))
+        table master → Passes (takes_under Origin.In table master (seen_place place.entry))
         (record w { source = S.state source.old; store = D.state store.old }) result
         (record w { source = S.state source.new; store = D.state store.new }) }
     ensures short { IfOk result (λ keyset. AllByRecursion IsShort keyset.records) }
 {
     let bytes = take_bytes(alloc, place.file, limit_under(lock), source, store)?;
-    keyset_under(alloc, lock, place.form, bytes.as_slice())
+    keyset_under(
+        alloc,
+        origin_of(place.file),
+        lock,
+        place.form,
+        bytes.as_slice(),
+    )
 }
 
-/// The keyset in the file of this name, in clear or under the lock.
+/// The keyset in the file of this name, which `--keyset` gives, in clear or under the lock.
 #[inline(never)]
 pub(crate) fn load_under<D: Store>(
     alloc: Global,
@@ -196,15 +214,16 @@ pub(crate) fn load_under<D: Store>(
           h.now.keyset,
           h.now.handle.held,
         )) lock.entry)
-        table master → Passes (takes_under table master (record { file = Some name.now; form = form }))
+        table master → Passes (takes_under Origin.Keyset table master
+        (record { file = Some name.now; form = form }))
         (record w { store = D.state store.old }) result (record w { store = D.state store.new }) }
     ensures short { IfOk result (λ keyset. AllByRecursion IsShort keyset.records) }
 {
-    let bytes = load_bytes(alloc, name, limit_under(lock), store)?;
-    keyset_under(alloc, lock, form, bytes.as_slice())
+    let bytes = load_bytes(alloc, Origin::Keyset, name, limit_under(lock), store)?;
+    keyset_under(alloc, Origin::Keyset, lock, form, bytes.as_slice())
 }
 
-/// The keyset at this place, in clear or under a lock that is opened first.
+/// The keyset at the place that `--in` gives, in clear or under a lock that is opened first.
 #[inline(never)]
 pub(crate) fn take_locked<S: Source, D: Store>(
     alloc: Global,
@@ -215,7 +234,7 @@ pub(crate) fn take_locked<S: Source, D: Store>(
     store: &mut D,
 ) -> Result<Keyset, Status>
     ensures passes { (w : World) → Passes
-        (takes_locked (⟦<Managers as KeyTable>⟧.table managers.now) (seen_lock lock.entry)
+        (takes_locked Origin.In (⟦<Managers as KeyTable>⟧.table managers.now) (seen_lock lock.entry)
         (seen_place place.entry))
         (record w { source = S.state source.old; store = D.state store.old }) result
         (record w { source = S.state source.new; store = D.state store.new }) }
@@ -225,7 +244,7 @@ pub(crate) fn take_locked<S: Source, D: Store>(
     take_under(alloc, lock.as_ref(), place, source, store)
 }
 
-/// The keyset in the file of this name, in clear or under a lock that is opened first.
+/// The keyset in the file that `--keyset` gives, in clear or under a lock that is opened first.
 #[inline(never)]
 pub(crate) fn load_locked<D: Store>(
     alloc: Global,

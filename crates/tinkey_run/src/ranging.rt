@@ -61,7 +61,7 @@ fn open_under<D: Store>(
     };
     match store.size(range.file) {
         Ok(Some(size)) => opened(open_file(alloc, keys, ad.as_slice(), range, size, store)),
-        Ok(None) => Err(Status::InMissing),
+        Ok(None) => Err(Status::StreamMissing),
         Err(_) => Err(Status::StoreFault),
     }
 }

@@ -19,7 +19,7 @@ use lookahead::Lookahead;
 use managers::{KeyTable, Managers};
 use std::alloc::Global;
 use tink_base::{Entropy, Sink, Source, Store};
-use tinkey_plans::Status;
+use tinkey_plans::{Origin, Status};
 use tinkey_session::TalkFault;
 use tinkey_session::talk::talk;
 use tinkey_words::{Format, Master, Place};
@@ -87,7 +87,7 @@ fn answer_under<S: Source, K: Sink, E: Lookahead, D: Store>(
           h.now.handle.held,
         )) lock.entry)
         (⟦<Managers as KeyTable>⟧.table managers.now) master → Finishes
-        (takes_under (⟦<Managers as KeyTable>⟧.table managers.now) master
+        (takes_under Origin.Keyset (⟦<Managers as KeyTable>⟧.table managers.now) master
         (record { file = Some keyset.now; form = form })
         (holds_session (⟦<Managers as KeyTable>⟧.table managers.now) master (seen_place output.entry)))
         (world (S.state source.old) (K.state sink.old) (D.state store.old) (E.state entropy.old))

@@ -6,6 +6,7 @@ ghost use Rattle.key_msgs.specs.declared.primitive.Primitive.TheVariants.{Aead};
 ghost use Rattle.keyset_model.specs.Keyset.{Keys, IsShort};
 ghost use Rattle.keyset_model.specs.Writing.{binary_of};
 ghost use Rattle.wrapped_prims.specs.Making.{IsOver};
+ghost use Rattle.tinkey_plans.specs.Origins.{begins_of};
 ghost use Rattle.tinkey_plans.specs.Ends.{World};
 ghost use Rattle.tinkey_plans.specs.Steps.{OrStarved, Passes};
 ghost use Rattle.tinkey_plans.specs.Handles.{IsServing};
@@ -20,7 +21,7 @@ use managers::{KeyTable, Managers};
 use seal_wrap::{UnwrapFault, WrapFault, encrypted_front, unwrap_keyset, wrap};
 use std::alloc::Global;
 use tink_base::{Bytes, Entropy, NoMemory};
-use tinkey_plans::{Status, Unopened};
+use tinkey_plans::{Begins, Origin, Status, Unopened, begins_of};
 use tinkey_words::Format;
 use wrapped_prims::Handle;
 
@@ -51,9 +52,10 @@ pub(crate) fn wrap_under<E: Entropy>(
     }
 }
 
-/// The keyset of the text, opened under the master.
+/// The keyset of the text, which comes from there, opened under the master.
 pub(crate) fn unwrap_under(
     alloc: Global,
+    from: Origin,
     master: &OpenMaster<'_>,
     text: &[u8],
     form: Format,
@@ -62,26 +64,34 @@ pub(crate) fn unwrap_under(
         master.now.keyset master.now.handle.held }
     requires bound { length text.now ≤ 4194304 }
     ensures passes { (w : World) → Passes
-        (unwraps master.now.keyset
+        (unwraps from master.now.keyset
         (⟦<Managers as KeyTable>⟧.table master.now.handle.managers.now) form text.now) w result w }
     ensures short { IfOk result (λ keyset. AllByRecursion IsShort keyset.records) }
 {
     match unwrap_keyset(alloc, &master.handle, text, is_json(form)) {
         Ok(keyset) => Ok(keyset),
-        Err(fault) => Err(refusal(alloc, &master.keyset, text, form, fault)),
+        Err(fault) => Err(refusal(alloc, from, &master.keyset, text, form, fault)),
     }
 }
 
 /// The status of this text, which gives no keyset.
-fn refusal(alloc: Global, master: &Keyset, text: &[u8], form: Format, fault: UnwrapFault) -> Status
+fn refusal(
+    alloc: Global,
+    from: Origin,
+    master: &Keyset,
+    text: &[u8],
+    form: Format,
+    fault: UnwrapFault,
+) -> Status
     requires bound { length text.now ≤ 4194304 }
-    ensures { OrStarved (unwrap_refusal (is_keyset form text.now)
+    ensures { OrStarved (unwrap_refusal from (begins_of text.now) (is_keyset form text.now)
         (keyset_sealer form master.now text.now) fault) result }
 {
     match fault {
-        UnwrapFault::OuterWire(at) | UnwrapFault::InnerWire(at) => Status::BadProto(at),
-        UnwrapFault::NotJson => Status::NotJson,
-        UnwrapFault::Member => Status::WrappedMember,
+        UnwrapFault::OuterWire(at) => Status::BadProto(at, from, begins_of(text)),
+        UnwrapFault::InnerWire(at) => Status::BadProto(at, from, Begins::Otherwise),
+        UnwrapFault::NotJson => Status::NotJson(from, begins_of(text)),
+        UnwrapFault::Member => Status::WrappedMember(from),
         UnwrapFault::NotOpened => unopened(alloc, master, text, form),
         UnwrapFault::Fault(fault) => Status::Keyset(fault),
         UnwrapFault::NoMemory => Status::NoMemory,

@@ -1,4 +1,5 @@
 use Rattle.std.proofs.Common.{Ok, ◌∙◌}
+use Rattle.tinkey_plans.specs.declared.origin.Origin.TheVariants as origins
 use Rattle.tinkey_words.specs.Words.{seen_lock, seen_place}
 use Rattle.keyset_model.specs.Listing.{info_of}
 use Rattle.tinkey_plans.specs.Steps.{works_out}
@@ -7,11 +8,11 @@ use Rattle.tinkey_plans.proofs.StepLemmas.{passes_then, ends_there, worked_out, 
 use Rattle.tinkey_run.proofs.list.list_keyset.Goals as goal
 
 pub returns-in_err-keyset : goal.returns-in_err-keyset
-returns-in_err-keyset g c = λ w. ends_there (takes_locked _ (seen_lock c.args.lock) (seen_place c.args.input)) (λ keys. works_out (info_of keys)) _ _ _ _ c.from_residual.ensures.1 (c.in_err-keyset.ensures.passes w)
+returns-in_err-keyset g c = λ w. ends_there (takes_locked origins.In _ (seen_lock c.args.lock) (seen_place c.args.input)) (λ keys. works_out (info_of keys)) _ _ _ _ c.from_residual.ensures.1 (c.in_err-keyset.ensures.passes w)
 
 pub returns-in_err-text : goal.returns-in_err-text
 returns-in_err-text g c = λ w.
-    let takes = takes_locked _ (seen_lock c.args.lock) (seen_place c.args.input) in
+    let takes = takes_locked origins.In _ (seen_lock c.args.lock) (seen_place c.args.input) in
     let old = record w { source = g.S.Source.state c.args.source.now; store = g.D.Store.state c.args.store.now } in
     let new = record w { source = g.S.Source.state c.take_locked.new.source; store = g.D.Store.state c.take_locked.new.store } in
     let keys = c.in_ok-keyset.keyset in
@@ -20,7 +21,7 @@ returns-in_err-text g c = λ w.
 
 pub returns : goal.returns
 returns g c = λ w.
-    let takes = takes_locked _ (seen_lock c.args.lock) (seen_place c.args.input) in
+    let takes = takes_locked origins.In _ (seen_lock c.args.lock) (seen_place c.args.input) in
     let old = record w { source = g.S.Source.state c.args.source.now; store = g.D.Store.state c.args.store.now } in
     let new = record w { source = g.S.Source.state c.take_locked.new.source; store = g.D.Store.state c.take_locked.new.store } in
     let keys = c.in_ok-keyset.keyset in

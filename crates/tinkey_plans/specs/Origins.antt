@@ -1,0 +1,82 @@
+-- Where a keyset comes from and how its bytes begin: what is told of one that is missing or can't be read. It is a
+-- function of the option that gives it, and of the first of its bytes alone.
+--
+--   begins_of      how bytes begin
+--   file_text      what is read: the file that an option gives, or standard input
+--   format_text    the option that gives its form
+--   missing_line, not_json_line, not_proto_line, file_line   the second lines that tell it
+use Rattle.std.specs.Prelude.{ℕ, Bool, false, List, ◌++◌, ◌||◌, drop, nat_eq, slice_get, Option, Some, None, if◌then◌else◌, codes}
+use Rattle.std.specs.Char.{is_ascii_whitespace}
+use Rattle.std.specs.List.{prefix_len}
+use Rattle.tinkey_plans.specs.declared.origin.Begins.{Begins}
+use Rattle.tinkey_plans.specs.declared.origin.Begins.TheVariants as begun
+use Rattle.tinkey_plans.specs.declared.origin.Origin.{Origin}
+use Rattle.tinkey_plans.specs.declared.origin.Origin.TheVariants as origins
+
+-- ---- how bytes begin
+
+-- the tag of field 1 of a keyset, a number, or of field 2 of a keyset or an encrypted one, of its length
+abbrev pub is_front_tag : Option ℕ → Bool
+is_front_tag None = false
+is_front_tag (Some byte) = nat_eq byte 8 || nat_eq byte 18
+
+-- the byte that opens an object in JSON
+abbrev pub is_brace : Option ℕ → Bool
+is_brace None = false
+is_brace (Some byte) = nat_eq byte 123
+
+-- the first byte that isn't white space
+abbrev pub first_dark : List ℕ → Option ℕ
+first_dark bytes = slice_get (drop (prefix_len is_ascii_whitespace bytes) bytes) 0
+
+-- as a keyset in the binary form does, or as one in JSON, in clear or encrypted
+abbrev pub begins_of : List ℕ → Begins
+begins_of bytes =
+    if is_front_tag (slice_get bytes 0) then begun.AsBinary
+    else if is_brace (first_dark bytes) then begun.AsJson
+    else begun.Otherwise
+
+-- ---- the second lines
+
+-- what is read
+unfoldable pub file_text : Origin → List ℕ
+file_text origins.Keyset = codes "the file that --keyset gives"
+file_text origins.Master = codes "the file that --master gives"
+file_text origins.NewMaster = codes "the file that --new-master gives"
+file_text origins.OnlyMaster = codes "the file of the master"
+file_text origins.In = codes "the file that --in gives"
+file_text origins.StandardInput = codes "standard input"
+
+-- the option that gives its form
+unfoldable pub format_text : Origin → List ℕ
+format_text origins.Keyset = codes "--keyset-format"
+format_text origins.Master = codes "--master-format"
+format_text origins.NewMaster = codes "--new-master-format"
+format_text origins.OnlyMaster = codes "--master-format or --new-master-format"
+format_text origins.In = codes "--in-format"
+format_text origins.StandardInput = codes "--in-format"
+
+-- the file isn't there
+abbrev pub missing_line : Origin → List ℕ
+missing_line from = codes "tinkey: " ++ file_text from ++ codes " is not there\n"
+
+-- it is the one that is meant
+abbrev pub file_line : Origin → List ℕ
+file_line from = codes "tinkey: it is " ++ file_text from ++ codes "\n"
+
+-- it isn't JSON, and begins so
+abbrev pub not_json_line : Origin → Begins → List ℕ
+not_json_line from begun.AsBinary =
+    codes "tinkey: " ++ file_text from ++ codes " begins as the binary form does: add " ++ format_text from
+    ++ codes " binary\n"
+not_json_line from begun.AsJson =
+    codes "tinkey: " ++ file_text from ++ codes " begins as JSON does, but can't be read to its end\n"
+not_json_line from begun.Otherwise =
+    codes "tinkey: " ++ file_text from ++ codes " doesn't begin with {, as a keyset in JSON does\n"
+
+-- it can't be read in the binary form, and begins so
+abbrev pub not_proto_line : Origin → Begins → List ℕ
+not_proto_line from begun.AsJson =
+    codes "tinkey: " ++ file_text from ++ codes " begins as JSON does: leave " ++ format_text from
+    ++ codes " binary out\n"
+not_proto_line from _ = codes "tinkey: " ++ file_text from ++ codes " is damaged, or isn't a keyset\n"
