@@ -2,6 +2,8 @@
 
 pub mod came;
 #[cfg(test)]
+mod causes;
+#[cfg(test)]
 mod files;
 #[cfg(test)]
 mod naming;

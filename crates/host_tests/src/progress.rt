@@ -43,6 +43,6 @@ fn shows_mib_from_64_on_at_most_once_in_16(rt: HostRuntime) -> Result<(), Fail> 
         }
     }
     drop(source);
-    assert_eq!(rt; shown.as_slice(), b"64 MiB\r80 MiB\r96 MiB\r");
+    assert_eq!(rt; shown.as_slice(), b"64 MiB\r80 MiB\r96 MiB\r".as_slice());
     Ok(())
 }

@@ -29,10 +29,10 @@ ends_linked fresh held bytes lasted linked old new result whole at same =
     ends_kept fresh held bytes lasted (Linked held lasted) old new result whole refl (whole, refl) (subst (λ (o : Option Stage). IsAt o (Linked held lasted)) (sym same) at)
 
 -- a file that was opened under the name and filled
-pub ends_opened : {F E : Type 0} (fresh : Option (List ℕ)) (contents : F → Option (List ℕ)) (lasts : F → Option Bool) (bytes : List ℕ) (opened filled : Result F E) (file : F) (answer : Created) (told : Result Created StoreError) (old new : Option Stage) (result : Result Created StoreError) → IfOk opened (λ f. Keeps fresh (contents f)) → OnOk opened (IsAt old Opened) → IfOk opened (λ f. IfOk told (λ m. (m ≡ created.Made) × IsOkAnd filled (λ g. Lasts (lasts g) × Appends (contents f) (contents g) bytes))) → IfErr opened (λ e. filled ≡ Err e) → told ≡ Ok answer → filled ≡ Ok file → IfOk result (λ m. (m ≡ created.Made) × (new ≡ option_map (kept_as (contents file) (lasts file)) old)) → IfErr result (λ e. (e ≡ error.Failed) × (new ≡ old)) → IfSome new (λ s. EndsAs fresh bytes result s)
+pub ends_opened : {F E X : Type 0} (fresh : Option (List ℕ)) (contents : F → Option (List ℕ)) (lasts : F → Option Bool) (bytes : List ℕ) (opened filled : Result F E) (file : F) (answer : Created) (told : Result Created X) (old new : Option Stage) (result : Result Created StoreError) → IfOk opened (λ f. Keeps fresh (contents f)) → OnOk opened (IsAt old Opened) → IfOk opened (λ f. IfOk told (λ m. (m ≡ created.Made) × IsOkAnd filled (λ g. Lasts (lasts g) × Appends (contents f) (contents g) bytes))) → IfErr opened (λ e. filled ≡ Err e) → told ≡ Ok answer → filled ≡ Ok file → IfOk result (λ m. (m ≡ created.Made) × (new ≡ option_map (kept_as (contents file) (lasts file)) old)) → IfErr result (λ e. (e ≡ error.Failed) × (new ≡ old)) → IfSome new (λ s. EndsAs fresh bytes result s)
 ends_opened {F = F} {E = E} fresh contents lasts bytes (Err e) filled file answer told old new result kept at fill unopened is there done failed =
     let no : ⊥ = cc in absurd no
-ends_opened {F = F} {E = E} fresh contents lasts bytes (Ok f) filled file answer told old new result kept at fill unopened is there done failed =
-    let all = subst (λ (t : Result Created StoreError). IfOk t (λ m. (m ≡ created.Made) × IsOkAnd filled (λ g. Lasts (lasts g) × Appends (contents f) (contents g) bytes))) is fill in
+ends_opened {F = F} {E = E} {X = X} fresh contents lasts bytes (Ok f) filled file answer told old new result kept at fill unopened is there done failed =
+    let all = subst (λ (t : Result Created X). IfOk t (λ m. (m ≡ created.Made) × IsOkAnd filled (λ g. Lasts (lasts g) × Appends (contents f) (contents g) bytes))) is fill in
     let whole = subst (λ (t : Result F E). IsOkAnd t (λ g. Lasts (lasts g) × Appends (contents f) (contents g) bytes)) there all.1 in
     ends_kept fresh (contents file) bytes (lasts file) Opened old new result (whole.0, appends_after fresh (contents f) (contents file) bytes kept whole.1) refl refl at done failed

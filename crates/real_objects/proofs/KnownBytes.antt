@@ -5,7 +5,6 @@ use Rattle.std.specs.Prelude.{Option, option_map}
 use Rattle.std.specs.Io.KnownBytes.{Keeps, Appends}
 use Rattle.tink_base.specs.declared.store.Loaded.{Loaded}
 use Rattle.tink_base.specs.declared.store.Loaded.TheVariants as loaded
-use Rattle.tink_base.specs.declared.store.StoreError.{StoreError}
 use Rattle.real_objects.specs.Folder.{IsLoaded}
 
 -- a write after writes that took nothing
@@ -30,11 +29,11 @@ front_whole bytes items limit loaded.TooLong is told =
 front_whole bytes items limit (loaded.Bytes all) is told =
     within_is_all bytes all limit (told.0 ∙ is) (omega (arith, ap length told.0, told.1))
 
-pub loaded_whole : {E : Type 0} (file front : Option (List ℕ)) (start items : List ℕ) (limit : ℕ) (read : Result ℕ E) (result : Result Loaded StoreError) → front ≡ option_map (take (limit + 1)) file → start ≡ [] → OnOk read (IfSome front (λ bs. items ≡ start ++ bs)) → IfOk result (λ found. IsLoaded items limit found) → (IsErr read → IsErr result) → IfSome file (λ bytes. IfOk result (λ found. IsLoaded bytes limit found))
+pub loaded_whole : {E F : Type 0} (file front : Option (List ℕ)) (start items : List ℕ) (limit : ℕ) (read : Result ℕ E) (result : Result Loaded F) → front ≡ option_map (take (limit + 1)) file → start ≡ [] → OnOk read (IfSome front (λ bs. items ≡ start ++ bs)) → IfOk result (λ found. IsLoaded items limit found) → (IsErr read → IsErr result) → IfSome file (λ bytes. IfOk result (λ found. IsLoaded bytes limit found))
 loaded_whole None front start items limit read result is none all told failed = tt
 loaded_whole (Some bytes) front start items limit read (Err error) is none all told failed = tt
-loaded_whole (Some bytes) front start items limit (Err error) (Ok found) is none all told failed =
-    let wrong : IsErr {T = Loaded} {E = StoreError} (Ok found) = failed refl in
+loaded_whole {F = F} (Some bytes) front start items limit (Err error) (Ok found) is none all told failed =
+    let wrong : IsErr {T = Loaded} {E = F} (Ok found) = failed refl in
     let never : ⊥ = cc in
     absurd never
 loaded_whole (Some bytes) front start items limit (Ok n) (Ok found) is none all told failed =

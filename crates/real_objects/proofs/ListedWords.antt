@@ -1,8 +1,8 @@
 -- The words of a command line, one after another.
-use Rattle.std.proofs.Common.{◌≡◌, sym, ◌∙◌, ap, subst, ℕ, zero, suc, ◌+◌, ◌-◌, ◌≤◌, ◌<◌, List, [], ◌∷◌, ◌++◌, length, take, drop, map, Some, None, IfSome, Option, slice_get, String, string_bytes, arith}
+use Rattle.std.proofs.Common.{◌≡◌, sym, ◌∙◌, ap, subst, ℕ, zero, suc, ◌+◌, ◌-◌, ◌≤◌, ◌<◌, List, [], ◌∷◌, ◌++◌, length, take, drop, map, Some, None, IfSome, IfOk, IfErr, Result, Ok, Err, Option, slice_get, String, string_bytes, arith, inl, inr}
 use Rattle.std.specs.Str.{IsUtf8}
 use Rattle.std.proofs.lemmas.Str.{IsUtf8-string_bytes}
-use Rattle.real_objects.specs.Words.{IsCause, IsCauseAt, IsFound, IsNotText}
+use Rattle.real_objects.specs.Words.{IsCause, IsCauseAt, IsCostly, IsFirstCostly, IsFound, IsLonger, IsNotText}
 use Rattle.real_objects.specs.declared.args.NoWords.{NoWords}
 use Rattle.real_objects.specs.declared.args.NoWords.TheVariants as whys
 use Rattle.std.proofs.Math.Seq.{take-suc}
@@ -33,6 +33,17 @@ one_more_word (Some t) place before after text behind so_far found is some all =
     ap (λ l. map string_bytes l) all ∙ map-append string_bytes before (text ∷ []) ∙
     next_word t place (string_bytes text) (map string_bytes before) behind (subst (λ f. IsFound t place f) some is) so_far
 
+-- what holds of the word of a place in any words holds where they are told
+pub found_at : {X E : Type 0} (told : Option (List (List ℕ))) (at : ℕ) (word : List ℕ) (result : Result X E) (P : List (List ℕ) → X → Type 0) → IfSome told (λ t. slice_get t at ≡ Some word) → ((t : List (List ℕ)) → slice_get t at ≡ Some word → IfOk result (P t)) → IfOk result (λ x. IfSome told (λ t. P t x))
+found_at None at word (Ok x) P there holds = tt
+found_at None at word (Err e) P there holds = tt
+found_at (Some t) at word result P there holds = holds t there
+
+pub cause_at : {X E : Type 0} (told : Option (List (List ℕ))) (at : ℕ) (word : List ℕ) (result : Result X E) (P : List (List ℕ) → E → Type 0) → IfSome told (λ t. slice_get t at ≡ Some word) → ((t : List (List ℕ)) → slice_get t at ≡ Some word → IfErr result (P t)) → IfErr result (λ e. IfSome told (λ t. P t e))
+cause_at None at word (Ok x) P there holds = tt
+cause_at None at word (Err e) P there holds = tt
+cause_at (Some t) at word result P there holds = holds t there
+
 -- the words before a place that is behind the last one
 pub all_words : {A : Type 0} (told : Option (List (List ℕ))) (place : ℕ) (done : List (String A)) (found : Option (String A)) → IfSome told (λ t. IsFound t place found) → found ≡ None → IfSome told (λ t. map string_bytes done ≡ take (place - 1) (drop 1 t)) → IfSome told (λ t. map string_bytes done ≡ drop 1 t)
 all_words None place done found is none so_far = tt
@@ -61,18 +72,33 @@ texts_before (x ∷ words) place done are (suc k) word after within there =
     let below : k < place = omega (arith, within) in
     texts_are_utf8 done words place k word are below there
 
+-- memory may be wanted for a long word
+pub long_costs : (told : Option (List (List ℕ))) (at : ℕ) → IfSome told (λ t. IsLonger t at 256) → IfSome told (λ t. IsCauseAt t at whys.NoMemory)
+long_costs None at longer = tt
+long_costs (Some t) at longer = record { word = longer.word; there = longer.there; costly = inr longer.longer }
+
+-- memory may be wanted for the word of a place, where those before it are texts
+first_costly : {A : Type 0} (t : List (List ℕ)) (at : ℕ) (done : List (String A)) → 1 ≤ at → map string_bytes done ≡ take (at - 1) (drop 1 t) → IsCostly t at → IsFirstCostly t at
+first_costly t at done behind are costly = record {
+  after = behind;
+  at = costly;
+  before = λ k word after before there. texts_before t (at - 1) done are k word after (omega (arith, before)) there;
+}
+
 -- why there is no word of a place is why there are no words, where those before it are texts
-pub no_words : {A : Type 0} (told : Option (List (List ℕ))) (at : ℕ) (done : List (String A)) → IfSome told (λ t. map string_bytes done ≡ take (at - 1) (drop 1 t)) → (why : NoWords) → IfSome told (λ t. IsCauseAt t at why) → IfSome told (λ t. IsCause t why)
-no_words None at done are why there = tt
-no_words (Some t) at done are whys.NoMemory there = tt
-no_words (Some t) at done are (whys.NotText place) there =
+pub no_words : {A : Type 0} (told : Option (List (List ℕ))) (at : ℕ) (done : List (String A)) → 1 ≤ at → IfSome told (λ t. map string_bytes done ≡ take (at - 1) (drop 1 t)) → (why : NoWords) → IfSome told (λ t. IsCauseAt t at why) → IfSome told (λ t. IsCause t why)
+no_words None at done behind are why there = tt
+no_words (Some t) at done behind are whys.NoMemory there = (at, first_costly t at done behind are there)
+no_words (Some t) at done behind are (whys.NotText place) there =
     let same : at - 1 ≡ place = omega (arith, there.0) in
     record {
       at = subst (IsNotText t) there.0 there.1;
       before = texts_before t place done (are ∙ ap (λ n. take n (drop 1 t)) same);
     }
 
--- want of memory needs no cause among the words
-pub no_memory : (told : Option (List (List ℕ))) → IfSome told (λ t. IsCause t whys.NoMemory)
-no_memory None = tt
-no_memory (Some t) = tt
+-- memory may be wanted for a word that was found, where those before it are texts
+pub no_memory : {A : Type 0} (told : Option (List (List ℕ))) (at : ℕ) (done : List (String A)) (found : Option (String A)) (text : String A) → 1 ≤ at → IfSome told (λ t. map string_bytes done ≡ take (at - 1) (drop 1 t)) → IfSome told (λ t. IsFound t at found) → found ≡ Some text → IfSome told (λ t. IsCause t whys.NoMemory)
+no_memory None at done found text behind are is some = tt
+no_memory (Some t) at done found text behind are is some =
+    let there : slice_get t at ≡ Some (string_bytes text) = subst (λ f. IsFound t at f) some is in
+    (at, first_costly t at done behind are record { word = string_bytes text; there = there; costly = inl (IsUtf8-string_bytes text) })

@@ -6,6 +6,9 @@ use Rattle.std.specs.Fs.{IsFile, file_type, metadata_len}
 use Rattle.std.specs.declared.fs.attrs.Metadata.{Metadata}
 use Rattle.std.specs.declared.io.ErrorKind.{ErrorKind}
 use Rattle.std.specs.declared.io.ErrorKind.TheVariants as kind
+use Rattle.real_objects.specs.declared.cause.Cause.{Cause}
+use Rattle.real_objects.specs.declared.cause.FileError.{FileError}
+use Rattle.real_objects.specs.declared.cause.FileError.TheVariants as error
 use Rattle.real_objects.specs.declared.folder.DirStore.{DirStore}
 use Rattle.real_objects.specs.declared.named.Aside.{Aside}
 use Rattle.real_objects.specs.Named.{left_path}
@@ -15,9 +18,22 @@ use Rattle.tink_base.specs.Pieces.{Draft}
 use Rattle.tink_base.specs.declared.store.Loaded.{Loaded}
 use Rattle.tink_base.specs.declared.store.Loaded.TheVariants as loaded
 
+-- how many calls on the files have failed
+abbrev pub fault_count : DirStore → ℕ
+fault_count files = elim files.faults [ None ↦ 0 | Some faults ↦ faults.count ]
+
+-- why the last of them did
+abbrev pub kept_cause : DirStore → Option Cause
+kept_cause files = option_map (λ faults. faults.last) files.faults
+
+-- the cause that they keep after a refusal with this error
+abbrev pub last_cause : Option Cause → FileError → Option Cause
+last_cause kept (error.Failed cause) = Some cause
+last_cause kept error.NoMemory = kept
+
 -- the files, of which their counts alone are told
 abbrev pub told_files : DirStore → StoreState
-told_files files = untold_store files.faults files.given
+told_files files = untold_store (fault_count files) files.given
 
 -- the path that the files keep of one which was made under a name aside that couldn't be removed
 abbrev pub kept_path : DirStore → Option (List ℕ)

@@ -1,3 +1,4 @@
+pub mod Cause
 pub mod Device
 pub mod Folder
 pub mod Named

@@ -6,13 +6,15 @@
 ghost use Rattle.std.specs.Prelude.{◌≡◌, ◌≢◌, ◌<◌, ◌≤◌, ℕ, List, [], length, take, IfOk, IfErr, IfSome, OnOk, OnErr};
 ghost use Rattle.std.specs.Io.KnownBytes.{Appends, Keeps};
 ghost use Rattle.std.specs.IoError.{error_kind};
+ghost use Rattle.real_objects.specs.Cause.{cause_of, stored_answer};
 ghost use Rattle.real_objects.specs.Naming.{Free, Starved, Begun, Taken, Linkless, Place, There, IsAt, IsWhole, Lasts, BeginsAs, CopiesTo, EndsAs};
 
+use crate::cause::{Cause, FileError, cause_of};
 use crate::folder::{NewFile, unmade};
 use crate::naming::{NewName, keep_name, link_file, open_aside};
 use crate::streams::write_through_signals;
 use std::io::{self, ErrorKind, Write};
-use tink_base::{Created, Failed, StoreError};
+use tink_base::Created;
 
 /// The most bytes that are copied at once.
 const PIECE: usize = 8192;
@@ -22,9 +24,9 @@ const PIECE: usize = 8192;
 /// Returns `None` if and only if a call on the name said that something else has it, and `NoMemory`
 /// if and only if a call said so before a file was made. After an error, removal of the temporary
 /// name is tried.
-pub fn begin_file<N: NewName>(name: &mut N) -> Result<Option<N::File>, StoreError>
+pub fn begin_file<N: NewName>(name: &mut N) -> Result<Option<N::File>, FileError>
     requires free { IsAt (N.stage name.old) Free }
-    ensures begun { IfSome (N.stage name.new) (λ s. BeginsAs result s) }
+    ensures begun { IfSome (N.stage name.new) (λ s. BeginsAs (stored_answer result) s) }
     ensures at { IfOk result (λ begun. IfSome begun (λ file. IsAt (N.stage name.new) Begun)) }
     ensures there { IfOk result (λ begun. IfSome begun (λ file. N.aside name.new ≡ There)) }
     ensures fresh { IfOk result (λ begun.
@@ -32,37 +34,39 @@ pub fn begin_file<N: NewName>(name: &mut N) -> Result<Option<N::File>, StoreErro
     ensures cleared { OnErr result (N.aside name.old ≢ There → N.aside name.new ≢ There) }
 {
     if let Err(error) = name.look_up() {
-        return unbegun(error.kind());
+        return unbegun(&error);
     }
     match open_aside(name) {
         Ok(mut file) => match file.admit_owner() {
             Ok(()) => Ok(Some(file)),
-            Err(_) => {
+            Err(error) => {
                 let _ = name.clear();
-                Err(StoreError::Failed)
+                Err(FileError::Failed(cause_of(&error)))
             }
         },
-        Err(error) => unbegun(error.kind()),
+        Err(error) => unbegun(&error),
     }
 }
 
-/// What a file that couldn't be begun is reported as, by the kind of the error.
-fn unbegun<F: Drop>(kind: ErrorKind) -> Result<Option<F>, StoreError>
-    ensures taken { kind ≡ ErrorKind.AlreadyExists → result ≡ Ok None }
-    ensures no_memory { kind ≡ ErrorKind.OutOfMemory → result ≡ Err StoreError.NoMemory }
-    ensures failed { kind ≢ ErrorKind.AlreadyExists → kind ≢ ErrorKind.OutOfMemory →
-        result ≡ Err StoreError.Failed }
+/// What a file that couldn't be begun is reported as, by the error.
+fn unbegun<F: Drop>(error: &io::Error) -> Result<Option<F>, FileError>
+    ensures taken { error_kind error.now ≡ ErrorKind.AlreadyExists → result ≡ Ok None }
+    ensures no_memory { error_kind error.now ≡ ErrorKind.OutOfMemory →
+        result ≡ Err FileError.NoMemory }
+    ensures failed { error_kind error.now ≢ ErrorKind.AlreadyExists →
+        error_kind error.now ≢ ErrorKind.OutOfMemory →
+        result ≡ Err (FileError.Failed (cause_of error.now)) }
 {
-    match unmade(kind) {
+    match unmade(error) {
         Ok(_) => Ok(None),
         Err(error) => Err(error),
     }
 }
 
 /// Writes the first bytes of a piece to the file, and returns how many: at least one, unless the
-/// piece is empty. A write interrupted by a signal is tried again. After `Failed` the file is
+/// piece is empty. A write interrupted by a signal is tried again. After an error the file is
 /// unchanged.
-pub fn append_piece<F: NewFile>(file: &mut F, piece: &[u8]) -> Result<usize, Failed>
+pub fn append_piece<F: NewFile>(file: &mut F, piece: &[u8]) -> Result<usize, Cause>
     ensures bound { IfOk result (λ n. n ≤ length piece.now) }
     ensures some { IfOk result (λ n. 0 < length piece.now → 0 < n) }
     ensures wrote { IfOk result (λ n.
@@ -72,7 +76,8 @@ pub fn append_piece<F: NewFile>(file: &mut F, piece: &[u8]) -> Result<usize, Fai
     match write_through_signals(file, piece) {
         Ok(n) if n > 0 => Ok(n),
         Ok(n) if piece.is_empty() => Ok(n),
-        _ => Err(Failed),
+        Ok(_) => Err(Cause::Other),
+        Err(error) => Err(cause_of(&error)),
     }
 }
 
@@ -83,20 +88,21 @@ pub fn append_piece<F: NewFile>(file: &mut F, piece: &[u8]) -> Result<usize, Fai
 /// that is whole and lasts. If and only if linking was refused because links aren't supported, the
 /// file is copied to a new one under the name itself; then that may exist after `Failed` with a
 /// prefix of the bytes. Removal of the temporary name is tried.
-pub fn finish_file<N: NewName>(name: &mut N, file: &mut N::File) -> Result<Created, StoreError>
+pub fn finish_file<N: NewName>(name: &mut N, file: &mut N::File) -> Result<Created, FileError>
     ghost bytes: { List ℕ }
     requires begun { IsAt (N.stage name.old) Begun }
     requires there { N.aside name.old ≡ There }
     requires empty { IfSome N.fresh (λ first. first ≡ []) }
     requires written { Appends N.fresh (N.File.contents file.old) bytes }
-    ensures named { IfSome (N.stage name.new) (λ s. EndsAs N.fresh bytes result s) }
+    ensures named { IfSome (N.stage name.new)
+        (λ s. EndsAs N.fresh bytes (stored_answer result) s) }
     ensures cleared { N.aside name.new ≢ There }
 {
     match store_file(file) {
         Ok(()) => name_file(name, file),
-        Err(_) => {
+        Err(error) => {
             let _ = name.clear();
-            Err(StoreError::Failed)
+            Err(FileError::Failed(cause_of(&error)))
         }
     }
 }
@@ -120,13 +126,14 @@ fn store_file<F: NewFile>(file: &mut F) -> io::Result<()>
 }
 
 /// Gives the name to a file that is whole and lasts, and removes the temporary name.
-fn name_file<N: NewName>(name: &mut N, file: &N::File) -> Result<Created, StoreError>
+fn name_file<N: NewName>(name: &mut N, file: &N::File) -> Result<Created, FileError>
     ghost bytes: { List ℕ }
     requires begun { IsAt (N.stage name.old) Begun }
     requires there { N.aside name.old ≡ There }
     requires empty { IfSome N.fresh (λ first. first ≡ []) }
     requires whole { IsWhole N.fresh bytes (N.File.contents file.now) (N.File.lasts file.now) }
-    ensures named { IfSome (N.stage name.new) (λ s. EndsAs N.fresh bytes result s) }
+    ensures named { IfSome (N.stage name.new)
+        (λ s. EndsAs N.fresh bytes (stored_answer result) s) }
     ensures cleared { N.aside name.new ≢ There }
 {
     let linked = link_file(name, file);
@@ -138,27 +145,28 @@ fn name_file<N: NewName>(name: &mut N, file: &N::File) -> Result<Created, StoreE
             ErrorKind::PermissionDenied | ErrorKind::Unsupported | ErrorKind::TooManyLinks => {
                 copy_named(name, file)
             }
-            _ => Err(StoreError::Failed),
+            _ => Err(FileError::Failed(cause_of(&error))),
         },
     }
 }
 
 /// Copies a whole file to a new one under the name itself, if links aren't supported.
-fn copy_named<N: NewName>(name: &mut N, from: &N::File) -> Result<Created, StoreError>
+fn copy_named<N: NewName>(name: &mut N, from: &N::File) -> Result<Created, FileError>
     ghost bytes: { List ℕ }
     requires linkless { IsAt (N.stage name.old) Linkless }
     requires empty { IfSome N.fresh (λ first. first ≡ []) }
     requires written { Appends N.fresh (N.File.contents from.now) bytes }
-    ensures named { IfSome (N.stage name.new) (λ s. EndsAs N.fresh bytes result s) }
+    ensures named { IfSome (N.stage name.new)
+        (λ s. EndsAs N.fresh bytes (stored_answer result) s) }
     ensures kept { N.aside name.new ≡ N.aside name.old }
 {
     match name.open() {
         Ok(mut file) => match copy_file(from, &mut file) {
             Ok(()) => keep_name(name, &file),
-            Err(_) => Err(StoreError::Failed),
+            Err(error) => Err(FileError::Failed(cause_of(&error))),
         },
         Err(error) if error.kind() == ErrorKind::AlreadyExists => Ok(Created::Exists),
-        Err(_) => Err(StoreError::Failed),
+        Err(error) => Err(FileError::Failed(cause_of(&error))),
     }
 }
 

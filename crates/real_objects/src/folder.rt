@@ -2,14 +2,18 @@
 //! functions that read and fill one file are about the file's bytes, if it reports them. How a new
 //! file gets its name is in `naming`, and reading at an offset in `placed`.
 
-ghost use Rattle.std.specs.Prelude.{◌≡◌, ◌≢◌, ◌^◌, ◌<◌, ◌≤◌, Bool, Option, true, false, None, [], length, take, drop, min, IfOk, IfErr, IsOk, IsErr, IsOkAnd, IsErrOf, IfSome, OnOk, option_map};
+ghost use Rattle.std.specs.Prelude.{◌≡◌, ◌≢◌, ◌^◌, ◌<◌, ◌≤◌, Bool, Option, Some, true, false, None, [], length, take, drop, min, IfOk, IfErr, IsOk, IsErr, IsOkAnd, IsErrOf, IsSome, IfSome, OnOk, option_map};
 ghost use Rattle.std.specs.Io.KnownBytes.{Appends, Keeps};
 ghost use Rattle.std.specs.IoError.{error_kind};
 ghost use Rattle.tink_base.specs.Store.{GivenByLoad, Loads};
-ghost use Rattle.real_objects.specs.Folder.{IsLoaded, IsMissing, drafted, kept_path, last_path, told_files};
+ghost use Rattle.tink_spec.specs.Outside.{Rose, RoseOnce, Stood};
+ghost use Rattle.tink_spec.specs.Files.{KeptFiles};
+ghost use Rattle.real_objects.specs.Cause.{cause_of, stored_answer, stored_error};
+ghost use Rattle.real_objects.specs.Folder.{IsLoaded, IsMissing, drafted, fault_count, kept_cause, kept_path, last_cause, last_path, told_files};
 ghost use Rattle.real_objects.specs.Naming.{Lasts};
 ghost use Rattle.real_objects.specs.Streams.{untold_store};
 
+use crate::cause::{Cause, FileError, cause_of};
 use crate::drafting::{append_piece, begin_file, finish_file, give_up_file};
 use crate::named::{DirName, free_place};
 use crate::naming::make_file;
@@ -30,10 +34,18 @@ pub(crate) const OWNER_ALONE: u32 = 0o600;
 #[derive(Drop)]
 pub struct DirStore<'a> {
     rt: &'a HostRuntime,
-    faults: u64,
+    faults: Option<Faults>,
     given: u64,
     left: Option<String>,
     draft: Option<DirDraft>,
+}
+
+/// The calls that failed, of which there is at least one.
+#[derive(Clone, Copy)]
+struct Faults {
+    count: u64,
+    // why the last one did
+    last: Cause,
 }
 
 /// A new file that is written in pieces, under a temporary name.
@@ -52,12 +64,13 @@ impl<'a> DirStore<'a> {
     /// The files, before the first call.
     pub fn new(rt: &'a HostRuntime) -> DirStore<'a>
         ensures none_left { kept_path result ≡ None }
+        ensures no_cause { kept_cause result ≡ None }
         ensures no_draft { drafted result ≡ None }
         ensures new { told_files result ≡ untold_store 0 0 }
     {
         DirStore {
             rt,
-            faults: 0,
+            faults: None,
             given: 0,
             left: None,
             draft: None,
@@ -74,15 +87,77 @@ impl<'a> DirStore<'a> {
         }
     }
 
+    /// Why the last call that failed did so. There is a cause if any has failed.
+    pub fn cause(&self) -> Option<Cause>
+        ensures kept { result ≡ kept_cause self.now }
+        ensures some { 0 < (told_files self.now).faults → IsSome result }
+    {
+        match &self.faults {
+            Some(faults) => Some(faults.last),
+            None => None,
+        }
+    }
+
     /// Keeps the path of a file whose temporary name couldn't be removed, if there is one.
     fn keep_left(&mut self, place: DirName<'_>)
         ensures left { kept_path self.new ≡ last_path (kept_path self.old) place.entry.aside }
         ensures drafted { drafted self.new ≡ drafted self.old }
-        ensures faults { self.new.faults ≡ self.old.faults }
-        ensures given { self.new.given ≡ self.old.given }
+        ensures cause { kept_cause self.new ≡ kept_cause self.old }
+        ensures told { told_files self.new ≡ told_files self.old }
     {
         if let Some(path) = place.into_left() {
             self.left = Some(path);
+        }
+    }
+
+    /// Counts a call that failed, and keeps why it did.
+    fn fail(&mut self, cause: Cause) -> Failed
+        ensures kept { kept_cause self.new ≡ Some cause }
+        ensures rose { Rose (fault_count self.old) (fault_count self.new) }
+        ensures once { RoseOnce (fault_count self.old) (fault_count self.new) }
+        ensures files { KeptFiles (told_files self.old) (told_files self.new) }
+        ensures left { kept_path self.new ≡ kept_path self.old }
+        ensures drafted { drafted self.new ≡ drafted self.old }
+        ensures given { self.new.given ≡ self.old.given }
+    {
+        self.faults = Some(Faults {
+            count: self.count().saturating_add(1),
+            last: cause,
+        });
+        Failed
+    }
+
+    /// How many calls have failed.
+    fn count(&self) -> u64
+        ensures { result ≡ fault_count self.now }
+    {
+        match &self.faults {
+            Some(faults) => faults.count,
+            None => 0,
+        }
+    }
+
+    /// The error as the store tells it. If a call failed, that is counted, and its cause is kept.
+    fn refuse(&mut self, error: FileError) -> StoreError
+        ensures told { result ≡ stored_error error }
+        ensures kept { kept_cause self.new ≡ last_cause (kept_cause self.old) error }
+        ensures rose { result ≡ StoreError.Failed →
+            Rose (fault_count self.old) (fault_count self.new) }
+        ensures once { result ≡ StoreError.Failed →
+            RoseOnce (fault_count self.old) (fault_count self.new) }
+        ensures stood { (result ≡ StoreError.Failed → ⊥) →
+            Stood (fault_count self.old) (fault_count self.new) }
+        ensures files { KeptFiles (told_files self.old) (told_files self.new) }
+        ensures left { kept_path self.new ≡ kept_path self.old }
+        ensures drafted { drafted self.new ≡ drafted self.old }
+        ensures given { self.new.given ≡ self.old.given }
+    {
+        match error {
+            FileError::Failed(cause) => {
+                self.fail(cause);
+                StoreError::Failed
+            }
+            FileError::NoMemory => StoreError::NoMemory,
         }
     }
 }
@@ -93,12 +168,7 @@ impl Store for DirStore<'_> {
     fn load(&mut self, alloc: Global, name: &str, limit: usize) -> Result<Loaded, StoreError> {
         match load_opened(alloc, fs::open(self.rt, name), limit, &mut self.given) {
             Ok(found) => Ok(found),
-            Err(error) => {
-                if error == StoreError::Failed {
-                    self.faults = self.faults.saturating_add(1);
-                }
-                Err(error)
-            }
+            Err(error) => Err(self.refuse(error)),
         }
     }
 
@@ -107,10 +177,7 @@ impl Store for DirStore<'_> {
     fn is_taken(&mut self, name: &str) -> Result<bool, Failed> {
         match taken_of(free_place(self.rt, name)) {
             Ok(taken) => Ok(taken),
-            Err(_) => {
-                self.faults = self.faults.saturating_add(1);
-                Err(Failed)
-            }
+            Err(cause) => Err(self.fail(cause)),
         }
     }
 
@@ -118,10 +185,7 @@ impl Store for DirStore<'_> {
     fn size(&mut self, name: &str) -> Result<Option<u64>, Failed> {
         match size_of(fs::metadata(self.rt, name)) {
             Ok(size) => Ok(size),
-            Err(_) => {
-                self.faults = self.faults.saturating_add(1);
-                Err(Failed)
-            }
+            Err(cause) => Err(self.fail(cause)),
         }
     }
 
@@ -131,27 +195,17 @@ impl Store for DirStore<'_> {
                 self.given = self.given.saturating_add(n as u64);
                 Ok(n)
             }
-            Err(_) => {
-                self.faults = self.faults.saturating_add(1);
-                Err(Failed)
-            }
+            Err(cause) => Err(self.fail(cause)),
         }
     }
 
     fn create(&mut self, alloc: Global, name: &str, bytes: &[u8]) -> Result<Created, StoreError> {
         let mut place = DirName::new(alloc, self.rt, name);
         let made = make_file(&mut place, bytes);
-        if let Some(path) = place.into_left() {
-            self.left = Some(path);
-        }
+        self.keep_left(place);
         match made {
             Ok(created) => Ok(created),
-            Err(error) => {
-                if error == StoreError::Failed {
-                    self.faults = self.faults.saturating_add(1);
-                }
-                Err(error)
-            }
+            Err(error) => Err(self.refuse(error)),
         }
     }
 }
@@ -181,10 +235,7 @@ impl PieceStore for DirStore<'_> {
             Ok(None) => Ok(Begun::Exists),
             Err(error) => {
                 self.keep_left(place);
-                if error == StoreError::Failed {
-                    self.faults = self.faults.saturating_add(1);
-                }
-                Err(error)
+                Err(self.refuse(error))
             }
         }
     }
@@ -197,10 +248,7 @@ impl PieceStore for DirStore<'_> {
         self.draft = Some(draft);
         match appended {
             Ok(n) => Ok(n),
-            Err(_) => {
-                self.faults = self.faults.saturating_add(1);
-                Err(Failed)
-            }
+            Err(cause) => Err(self.fail(cause)),
         }
     }
 
@@ -220,12 +268,7 @@ impl PieceStore for DirStore<'_> {
         self.keep_left(place);
         match made {
             Ok(created) => Ok(created),
-            Err(error) => {
-                if error == StoreError::Failed {
-                    self.faults = self.faults.saturating_add(1);
-                }
-                Err(error)
-            }
+            Err(error) => Err(self.refuse(error)),
         }
     }
 
@@ -247,17 +290,18 @@ impl PieceStore for DirStore<'_> {
 }
 
 /// Whether a name is taken, from looking up its place.
-fn taken_of(place: io::Result<()>) -> Result<bool, Failed>
+fn taken_of(place: io::Result<()>) -> Result<bool, Cause>
     ensures free { IfOk result (λ taken. taken ≡ false → IsOk place) }
     ensures taken { IfErr place (λ error. error_kind error ≡ ErrorKind.AlreadyExists →
         result ≡ Ok true) }
     ensures there { IfOk result (λ taken. taken ≡ true →
         IfErr place (λ error. error_kind error ≡ ErrorKind.AlreadyExists)) }
+    ensures failed { IfErr place (λ error. IfErr result (λ cause. cause ≡ cause_of error)) }
 {
     match place {
         Ok(_) => Ok(false),
         Err(error) if error.kind() == ErrorKind::AlreadyExists => Ok(true),
-        Err(_) => Err(Failed),
+        Err(error) => Err(cause_of(&error)),
     }
 }
 
@@ -269,25 +313,27 @@ pub fn load_opened<R: Read + Drop>(
     opened: io::Result<R>,
     limit: usize,
     given: &mut u64,
-) -> Result<Loaded, StoreError>
+) -> Result<Loaded, FileError>
     ensures whole { IfOk opened (λ file. IfSome (R.remaining file)
         (λ bytes. IfOk result (λ found. IsLoaded bytes (min limit (2 ^ 30)) found))) }
     ensures absent { IfErr opened (λ error. IfOk result
         (λ found. (found ≡ Loaded.Absent) × IsMissing (error_kind error))) }
     ensures missing { IfErr opened (λ error. IsMissing (error_kind error) →
         result ≡ Ok Loaded.Absent) }
-    ensures no_memory { IfErr opened (λ error. IsErrOf result StoreError.NoMemory →
+    ensures no_memory { IfErr opened (λ error. IsErrOf result FileError.NoMemory →
         error_kind error ≡ ErrorKind.OutOfMemory) }
     ensures starved { IfErr opened (λ error. error_kind error ≡ ErrorKind.OutOfMemory →
-        result ≡ Err StoreError.NoMemory) }
+        result ≡ Err FileError.NoMemory) }
+    ensures failed { IfErr opened (λ error. (cause : Cause) →
+        IsErrOf result (FileError.Failed cause) → cause ≡ cause_of error) }
     ensures loads { IfOk result (λ found. Loads (untold_store 0 0) [] limit found) }
-    ensures given { GivenByLoad limit result given.old given.new }
+    ensures given { GivenByLoad limit (stored_answer result) given.old given.new }
 {
     match opened {
         Ok(file) => read_file(alloc, file, limit.min(MOST), given),
         Err(error) => match error.kind() {
             ErrorKind::NotFound | ErrorKind::NotADirectory => Ok(Loaded::Absent),
-            kind => Err(fault_of(kind)),
+            _ => Err(fault_of(&error)),
         },
     }
 }
@@ -299,12 +345,12 @@ fn read_file<R: Read + Drop>(
     file: R,
     limit: usize,
     given: &mut u64,
-) -> Result<Loaded, StoreError>
+) -> Result<Loaded, FileError>
     requires limit_bound { limit ≤ 2 ^ 30 }
     ensures whole { IfSome (R.remaining file)
         (λ bytes. IfOk result (λ found. IsLoaded bytes limit found)) }
     ensures loads { IfOk result (λ found. Loads (untold_store 0 0) [] limit found) }
-    ensures given { GivenByLoad limit result given.old given.new }
+    ensures given { GivenByLoad limit (stored_answer result) given.old given.new }
 {
     let mut bytes = Vec::new(alloc);
     let mut front = file.take(limit as u64 + 1);
@@ -315,30 +361,31 @@ fn read_file<R: Read + Drop>(
 
 /// What was found of a file of which these bytes were read, at most one more than the limit. A
 /// failed read is reported as `NoMemory` if and only if its error says so.
-fn loaded_of(read: io::Result<usize>, bytes: Vec<u8>, limit: usize) -> Result<Loaded, StoreError>
+fn loaded_of(read: io::Result<usize>, bytes: Vec<u8>, limit: usize) -> Result<Loaded, FileError>
     ensures loaded { IfOk result (λ found. IsLoaded bytes.items limit found) }
     ensures done { IsOk read → IsOk result }
     ensures failed { IsErr read → IsErr result }
     ensures memory { IfErr read (λ error. error_kind error ≡ ErrorKind.OutOfMemory →
-        result ≡ Err StoreError.NoMemory) }
+        result ≡ Err FileError.NoMemory) }
     ensures fault { IfErr read (λ error. error_kind error ≢ ErrorKind.OutOfMemory →
-        result ≡ Err StoreError.Failed) }
+        result ≡ Err (FileError.Failed (cause_of error))) }
 {
     match read {
         Ok(_) if bytes.len() > limit => Ok(Loaded::TooLong),
         Ok(_) => Ok(Loaded::Bytes(Bytes::own(bytes))),
-        Err(error) => Err(fault_of(error.kind())),
+        Err(error) => Err(fault_of(&error)),
     }
 }
 
 /// What a failed call is reported as: `NoMemory` if and only if the system says so.
-fn fault_of(kind: ErrorKind) -> StoreError
-    ensures memory { kind ≡ ErrorKind.OutOfMemory → result ≡ StoreError.NoMemory }
-    ensures fault { kind ≢ ErrorKind.OutOfMemory → result ≡ StoreError.Failed }
+fn fault_of(error: &io::Error) -> FileError
+    ensures memory { error_kind error.now ≡ ErrorKind.OutOfMemory → result ≡ FileError.NoMemory }
+    ensures fault { error_kind error.now ≢ ErrorKind.OutOfMemory →
+        result ≡ FileError.Failed (cause_of error.now) }
 {
-    match kind {
-        ErrorKind::OutOfMemory => StoreError::NoMemory,
-        _ => StoreError::Failed,
+    match error.kind() {
+        ErrorKind::OutOfMemory => FileError::NoMemory,
+        _ => FileError::Failed(cause_of(error)),
     }
 }
 
@@ -390,7 +437,7 @@ impl NewFile for File {
 pub fn fill_opened<F: NewFile>(
     opened: &mut io::Result<F>,
     bytes: &[u8],
-) -> Result<Created, StoreError>
+) -> Result<Created, FileError>
     ensures made { IfOk opened.old (λ file. IfOk result (λ made. (made ≡ Created.Made) ×
         IsOkAnd opened.new (λ filled. Lasts (F.lasts filled) ×
         Appends (F.contents file) (F.contents filled) bytes.now))) }
@@ -398,32 +445,37 @@ pub fn fill_opened<F: NewFile>(
         (error_kind error ≡ ErrorKind.AlreadyExists))) }
     ensures taken { IfErr opened.old (λ error. error_kind error ≡ ErrorKind.AlreadyExists →
         result ≡ Ok Created.Exists) }
-    ensures no_memory { IfErr opened.old (λ error. IsErrOf result StoreError.NoMemory →
+    ensures no_memory { IfErr opened.old (λ error. IsErrOf result FileError.NoMemory →
         error_kind error ≡ ErrorKind.OutOfMemory) }
     ensures starved { IfErr opened.old (λ error. error_kind error ≡ ErrorKind.OutOfMemory →
-        result ≡ Err StoreError.NoMemory) }
-    ensures unfilled { IsOk opened.old → IfErr result (λ error. error ≡ StoreError.Failed) }
+        result ≡ Err FileError.NoMemory) }
+    ensures failed { IfErr opened.old (λ error. (cause : Cause) →
+        IsErrOf result (FileError.Failed cause) → cause ≡ cause_of error) }
+    ensures unfilled { IsOk opened.old →
+        IfErr result (λ error. stored_error error ≡ StoreError.Failed) }
     ensures unopened { IfErr opened.old (λ error. opened.new ≡ Err error) }
 {
     match opened {
         Ok(file) => match fill_file(file, bytes) {
             Ok(()) => Ok(Created::Made),
-            Err(_) => Err(StoreError::Failed),
+            Err(error) => Err(FileError::Failed(cause_of(&error))),
         },
-        Err(error) => unmade(error.kind()),
+        Err(error) => unmade(error),
     }
 }
 
-/// What a file that couldn't be made is reported as, by the kind of the error.
-pub(crate) fn unmade(kind: ErrorKind) -> Result<Created, StoreError>
-    ensures taken { kind ≡ ErrorKind.AlreadyExists → result ≡ Ok Created.Exists }
-    ensures no_memory { kind ≡ ErrorKind.OutOfMemory → result ≡ Err StoreError.NoMemory }
-    ensures failed { kind ≢ ErrorKind.AlreadyExists → kind ≢ ErrorKind.OutOfMemory →
-        result ≡ Err StoreError.Failed }
+/// What a file that couldn't be made is reported as, by the error.
+pub(crate) fn unmade(error: &io::Error) -> Result<Created, FileError>
+    ensures taken { error_kind error.now ≡ ErrorKind.AlreadyExists → result ≡ Ok Created.Exists }
+    ensures no_memory { error_kind error.now ≡ ErrorKind.OutOfMemory →
+        result ≡ Err FileError.NoMemory }
+    ensures failed { error_kind error.now ≢ ErrorKind.AlreadyExists →
+        error_kind error.now ≢ ErrorKind.OutOfMemory →
+        result ≡ Err (FileError.Failed (cause_of error.now)) }
 {
-    match kind {
+    match error.kind() {
         ErrorKind::AlreadyExists => Ok(Created::Exists),
-        kind => Err(fault_of(kind)),
+        _ => Err(fault_of(error)),
     }
 }
 

@@ -8,6 +8,7 @@
 mod ahead;
 mod args;
 mod beneath;
+mod cause;
 mod drafting;
 mod entropy;
 mod folder;
@@ -20,6 +21,7 @@ mod unread;
 pub use ahead::Device;
 pub use args::{Arguments, NoWords, words};
 pub use beneath::{ReadStream, StandardOutput, WriteStream};
+pub use cause::{Cause, FileError};
 pub use drafting::{append_piece, begin_file, finish_file, give_up_file};
 pub use entropy::{FileEntropy, Opens, RandomDevice};
 pub use folder::{DirStore, NewFile, fill_opened, load_opened};

@@ -1,7 +1,7 @@
 //! The path of a new file, and the temporary paths in its folder. Each call looks the path up
 //! again: there are no calls relative to an open folder.
 
-ghost use Rattle.std.specs.Prelude.{◌≡◌, ◌≢◌, Option, Some, None, IfOk, IfErr, IsOk, OnOk, OnErr, option_map, string_bytes};
+ghost use Rattle.std.specs.Prelude.{◌≡◌, ◌≢◌, Option, Some, None, IfOk, IfErr, IsOk, IsErr, OnOk, OnErr, option_map, string_bytes};
 ghost use Rattle.std.specs.IoError.{error_kind};
 ghost use Rattle.real_objects.specs.Folder.{IsFolder};
 ghost use Rattle.real_objects.specs.Named.{left_path, place_of, there_path};
@@ -101,10 +101,15 @@ impl<'a> DirName<'a> {
     /// takes the same one, and nobody can predict it. The bytes are drawn only for this, and aren't
     /// the run's.
     fn draw_aside(&self) -> io::Result<String> {
+        let (folder, number) = (folder_of(self.name), drawn(self.draw())?);
+        Ok(format!(in self.alloc; "{folder}/{ASIDE}{number:016x}")?)
+    }
+
+    /// A number of eight random bytes.
+    fn draw(&self) -> io::Result<u64> {
         let mut bytes = [0; 8];
         RandomDevice::new(self.rt).open()?.read_exact(&mut bytes)?;
-        let (folder, number) = (folder_of(self.name), u64::from_be_bytes(bytes));
-        Ok(format!(in self.alloc; "{folder}/{ASIDE}{number:016x}")?)
+        Ok(u64::from_be_bytes(bytes))
     }
 }
 
@@ -186,6 +191,24 @@ impl NewName for DirName<'_> {
             Some(folder) => folder_kept(folder.sync_all()),
             None => file.sync_all(),
         }
+    }
+}
+
+/// The number drawn. An error is `Other`, which no call of the system gives, so that a missing
+/// device isn't told as a missing folder; unless memory couldn't be allocated.
+fn drawn(number: io::Result<u64>) -> io::Result<u64>
+    ensures drawn { IfOk number (λ n. result ≡ Ok n) }
+    ensures starved { IfErr number (λ error. error_kind error ≡ ErrorKind.OutOfMemory →
+        result ≡ Err error) }
+    ensures failed { IfErr number (λ error. error_kind error ≢ ErrorKind.OutOfMemory →
+        IfErr result (λ other. error_kind other ≡ ErrorKind.Other)) }
+    ensures never { IsErr number → IsErr result }
+{
+    match number {
+        Err(error) if error.kind() != ErrorKind::OutOfMemory => {
+            Err(io::Error::from(ErrorKind::Other))
+        }
+        number => number,
     }
 }
 

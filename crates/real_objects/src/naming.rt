@@ -5,8 +5,10 @@
 ghost use Rattle.std.specs.Prelude.{◌≡◌, ◌≢◌, ℕ, List, Bool, Option, true, false, IfOk, IfErr, IfSome, OnOk, OnErr, option_map};
 ghost use Rattle.std.specs.Io.KnownBytes.{Keeps};
 ghost use Rattle.std.specs.IoError.{error_kind};
+ghost use Rattle.real_objects.specs.Cause.{stored_answer};
 ghost use Rattle.real_objects.specs.Naming.{Stage, Free, Starved, Begun, Taken, Linkless, Linked, Opened, Place, Gone, There, Left, IsAt, HasNoLinks, IsWhole, kept_as, EndsAs};
 
+use crate::cause::{FileError, cause_of};
 use crate::folder::{NewFile, fill_file, fill_opened, unmade};
 use std::io::{self, ErrorKind};
 use tink_base::{Created, StoreError};
@@ -109,23 +111,24 @@ pub trait NewName {
 /// and only if linking was refused because links aren't supported, a file is filled under the name
 /// itself; then it may exist after `Failed` with a prefix of the bytes. Removal of each temporary
 /// name is tried.
-pub fn make_file<N: NewName>(name: &mut N, bytes: &[u8]) -> Result<Created, StoreError>
+pub fn make_file<N: NewName>(name: &mut N, bytes: &[u8]) -> Result<Created, FileError>
     requires free { IsAt (N.stage name.old) Free }
-    ensures named { IfSome (N.stage name.new) (λ s. EndsAs N.fresh bytes.now result s) }
+    ensures named { IfSome (N.stage name.new)
+        (λ s. EndsAs N.fresh bytes.now (stored_answer result) s) }
     ensures cleared { N.aside name.old ≢ There → N.aside name.new ≢ There }
 {
     if let Err(error) = name.look_up() {
-        return unmade(error.kind());
+        return unmade(&error);
     }
     match open_aside(name) {
         Ok(mut file) => match fill_file(&mut file, bytes) {
             Ok(()) => give_name(name, &file, bytes),
-            Err(_) => {
+            Err(error) => {
                 let _ = name.clear();
-                Err(StoreError::Failed)
+                Err(FileError::Failed(cause_of(&error)))
             }
         },
-        Err(error) => unmade(error.kind()),
+        Err(error) => unmade(&error),
     }
 }
 
@@ -152,11 +155,12 @@ pub(crate) fn open_aside<N: NewName>(name: &mut N) -> io::Result<N::File>
 }
 
 /// Gives the name to a file that is whole and lasts, and removes the temporary name.
-fn give_name<N: NewName>(name: &mut N, file: &N::File, bytes: &[u8]) -> Result<Created, StoreError>
+fn give_name<N: NewName>(name: &mut N, file: &N::File, bytes: &[u8]) -> Result<Created, FileError>
     requires begun { IsAt (N.stage name.old) Begun }
     requires there { N.aside name.old ≡ There }
     requires whole { IsWhole N.fresh bytes.now (N.File.contents file.now) (N.File.lasts file.now) }
-    ensures named { IfSome (N.stage name.new) (λ s. EndsAs N.fresh bytes.now result s) }
+    ensures named { IfSome (N.stage name.new)
+        (λ s. EndsAs N.fresh bytes.now (stored_answer result) s) }
     ensures cleared { N.aside name.new ≢ There }
 {
     let linked = link_file(name, file);
@@ -168,7 +172,7 @@ fn give_name<N: NewName>(name: &mut N, file: &N::File, bytes: &[u8]) -> Result<C
             ErrorKind::PermissionDenied | ErrorKind::Unsupported | ErrorKind::TooManyLinks => {
                 fill_named(name, bytes)
             }
-            _ => Err(StoreError::Failed),
+            _ => Err(FileError::Failed(cause_of(&error))),
         },
     }
 }
@@ -201,9 +205,10 @@ pub(crate) fn link_file<N: NewName>(name: &mut N, file: &N::File) -> io::Result<
 }
 
 /// Fills a new file under the name itself, if links aren't supported.
-fn fill_named<N: NewName>(name: &mut N, bytes: &[u8]) -> Result<Created, StoreError>
+fn fill_named<N: NewName>(name: &mut N, bytes: &[u8]) -> Result<Created, FileError>
     requires linkless { IsAt (N.stage name.old) Linkless }
-    ensures named { IfSome (N.stage name.new) (λ s. EndsAs N.fresh bytes.now result s) }
+    ensures named { IfSome (N.stage name.new)
+        (λ s. EndsAs N.fresh bytes.now (stored_answer result) s) }
     ensures kept { N.aside name.new ≡ N.aside name.old }
 {
     let mut opened = name.open();
@@ -212,20 +217,20 @@ fn fill_named<N: NewName>(name: &mut N, bytes: &[u8]) -> Result<Created, StoreEr
             Ok(file) => keep_name(name, &file),
             Err(_) => Ok(made),
         },
-        Err(_) => Err(StoreError::Failed),
+        Err(error) => Err(FileError::Failed(error.cause())),
     }
 }
 
 /// Waits until the file's name is stored.
-pub(crate) fn keep_name<N: NewName>(name: &mut N, file: &N::File) -> Result<Created, StoreError>
-    ensures made { IfOk result (λ made. (made ≡ Created.Made) × (N.stage name.new ≡ option_map
+pub(crate) fn keep_name<N: NewName>(name: &mut N, file: &N::File) -> Result<Created, FileError>
+    ensures made { IfOk (stored_answer result) (λ made. (made ≡ Created.Made) × (N.stage name.new ≡ option_map
         (kept_as (N.File.contents file.now) (N.File.lasts file.now)) (N.stage name.old))) }
-    ensures failed { IfErr result (λ error. (error ≡ StoreError.Failed) ×
+    ensures failed { IfErr (stored_answer result) (λ error. (error ≡ StoreError.Failed) ×
         (N.stage name.new ≡ N.stage name.old)) }
     ensures kept { N.aside name.new ≡ N.aside name.old }
 {
     match name.put_away(file) {
         Ok(()) => Ok(Created::Made),
-        Err(_) => Err(StoreError::Failed),
+        Err(error) => Err(FileError::Failed(cause_of(&error))),
     }
 }

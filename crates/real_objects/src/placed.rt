@@ -1,14 +1,15 @@
 //! The length of a file, and reading it at an offset.
 
-ghost use Rattle.std.specs.Prelude.{◌≡◌, ◌≢◌, ◌<◌, ◌≤◌, ◌^◌, ℕ, List, Option, None, length, take, drop, IfOk, IfErr, IfSome, IsErr, OnErr};
+ghost use Rattle.std.specs.Prelude.{◌≡◌, ◌≢◌, ◌<◌, ◌≤◌, ◌^◌, ℕ, List, Option, None, Err, length, take, drop, IfOk, IfErr, IfSome, OnErr};
 ghost use Rattle.std.specs.Fs.{IsFile, file_type, metadata_len};
 ghost use Rattle.std.specs.IoError.{error_kind};
+ghost use Rattle.real_objects.specs.Cause.{cause_of};
 ghost use Rattle.real_objects.specs.Folder.{IsMissing, IsPieceAt, IsSize};
 
+use crate::cause::{Cause, cause_of};
 use std::fs::{File, Metadata};
 use std::io::{self, ErrorKind};
 use std::os::unix::fs::FileExt;
-use tink_base::Failed;
 
 /// The most bytes of one read. They are read into a buffer and copied, since the system may have
 /// written past what it says it read.
@@ -46,7 +47,7 @@ impl PlacedFile for File {
 
 /// The length of a file, from looking it up. A path that leads through a file, or through a folder
 /// that doesn't exist, has no file. What isn't a file has no length.
-pub fn size_of(found: io::Result<Metadata>) -> Result<Option<u64>, Failed>
+pub fn size_of(found: io::Result<Metadata>) -> Result<Option<u64>, Cause>
     ensures size { IfOk found (λ file. IfOk result (λ size. IsSize file size)) }
     ensures absent { IfErr found (λ error. IfOk result
         (λ size. (size ≡ None) × IsMissing (error_kind error))) }
@@ -54,36 +55,45 @@ pub fn size_of(found: io::Result<Metadata>) -> Result<Option<u64>, Failed>
         result ≡ Ok (Some (metadata_len file))) }
     ensures missing { IfErr found (λ error. IsMissing (error_kind error) → result ≡ Ok None) }
     ensures bound { IfOk result (λ size. IfSome size (λ n. n < 2 ^ 63)) }
+    ensures failed { IfErr found (λ error. IfErr result (λ cause. cause ≡ cause_of error)) }
 {
     match found {
         Ok(file) if file.is_file() && file.len() <= GREATEST => Ok(Some(file.len())),
-        Ok(_) => Err(Failed),
+        Ok(file) if file.is_dir() => Err(Cause::IsFolder),
+        Ok(_) => Err(Cause::NoLength),
         Err(error) => match error.kind() {
             ErrorKind::NotFound | ErrorKind::NotADirectory => Ok(None),
-            _ => Err(Failed),
+            _ => Err(cause_of(&error)),
         },
     }
 }
 
 /// Reads bytes of the opened file from offset `at` on: at least one. The rest of `out` is
-/// unchanged. A read interrupted by a signal is tried again. A file that no longer has a byte there
-/// counts as failed.
+/// unchanged. A read interrupted by a signal is tried again. A file that is no longer there, or no
+/// longer has a byte there, has changed.
 pub fn read_opened<F: PlacedFile + Drop>(
     opened: io::Result<F>,
     at: u64,
     out: &mut [u8],
-) -> Result<usize, Failed>
+) -> Result<usize, Cause>
     ensures read { IfOk opened (λ file. IfOk result (IsPieceAt (F.bytes file) at out.new)) }
     ensures bound { IfOk result (λ n. (1 ≤ n) × (n ≤ length out.new)) }
     ensures rest { IfOk result (λ n. drop n out.new ≡ drop n out.old) }
-    ensures unopened { IsErr opened → IsErr result }
+    ensures gone { IfErr opened (λ error. IsMissing (error_kind error) →
+        result ≡ Err Cause.Changed) }
+    ensures unopened { IfErr opened (λ error. ¬ (IsMissing (error_kind error)) →
+        result ≡ Err (cause_of error)) }
 {
     match opened {
         Ok(file) => match placed_through_signals(&file, at, out) {
             Ok(n) if n > 0 => Ok(n),
-            _ => Err(Failed),
+            Ok(_) => Err(Cause::Changed),
+            Err(error) => Err(cause_of(&error)),
         },
-        Err(_) => Err(Failed),
+        Err(error) => match error.kind() {
+            ErrorKind::NotFound | ErrorKind::NotADirectory => Err(Cause::Changed),
+            _ => Err(cause_of(&error)),
+        },
     }
 }
 

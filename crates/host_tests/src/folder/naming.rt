@@ -5,13 +5,16 @@ ghost use Rattle.real_objects.specs.Naming.{Free, HasNoLinks, kept_as};
 ghost use Rattle.host_tests.specs.Names.{stage_of, place_of};
 
 use crate::folder::came::{Came, Stands};
+use crate::folder::causes::made_word;
 use crate::folder::opened::{NOT_BACK, Page};
-use real_objects::{NewName, append_piece, begin_file, finish_file, give_up_file, make_file};
+use real_objects::{
+    Cause, FileError, NewName, append_piece, begin_file, finish_file, give_up_file, make_file,
+};
 use std::alloc::Global;
 use std::io::{self, ErrorKind};
 use std::test::Fail;
-use test_words::{cell, create_word, same_text};
-use tink_base::{Created, Failed, StoreError};
+use test_words::{cell, same_text};
+use tink_base::Created;
 
 /// A name that tells its calls, and refuses those that a text names, each with its error.
 #[derive(Drop)]
@@ -231,24 +234,24 @@ fn put(came: Came, lasts: bool) -> Came
     }
 }
 
-// The calls that are refused, what is told then, the calls in their order, and where the file aside is in the
+// The calls that are refused, what is told then, with the cause of a failure, the calls in their order, and where the file aside is in the
 // end: `aside` and `again` make files under names aside, `ours` is refused where the file has the name though
 // its link failed, `clear` removes a name aside, `open` makes a file under the name, `put` puts it away.
 const WAYS: [&str; 25] = [
     "a new file | | made | look aside link clear put | gone",
     "the name is taken | look exists | exists | look | gone",
-    "the name can't be looked up | look denied | failed | look | gone",
-    "there is no folder | look missing | failed | look | gone",
+    "the name can't be looked up | look denied | no permission | look | gone",
+    "there is no folder | look missing | no folder | look | gone",
     "there is no memory | look memory | no memory | look | gone",
     "a name aside is taken | aside exists | made | look aside again link clear put | gone",
-    "no file can be made | aside denied | failed | look aside | gone",
+    "no file can be made | aside denied | no permission | look aside | gone",
     "no memory for a name aside | aside memory | no memory | look aside | gone",
-    "the owner isn't let in | admit denied | failed | look aside clear | gone",
-    "a write fails | write full | failed | look aside clear | gone",
-    "no memory for a write | write memory | failed | look aside clear | gone",
+    "the owner isn't let in | admit denied | no space | look aside clear | gone",
+    "a write fails | write full | no space | look aside clear | gone",
+    "no memory for a write | write memory | no space | look aside clear | gone",
     "the name was taken since | link exists | exists | look aside link ours clear | gone",
-    "another failure of the link | link full | failed | look aside link ours clear | gone",
-    "no memory for the link | link memory | failed | look aside link ours clear | gone",
+    "another failure of the link | link full | no space | look aside link ours clear | gone",
+    "no memory for the link | link memory | memory | look aside link ours clear | gone",
     "a link told twice | link exists, ours so | made | look aside link ours clear put | gone",
     "a link lost on its way | link full, ours so | made | look aside link ours clear put | gone",
     "a link of ours, denied | link denied, ours so | made | look aside link ours clear put | gone",
@@ -256,10 +259,10 @@ const WAYS: [&str; 25] = [
     "links aren't supported | link unsupported | made | look aside link ours clear open put | gone",
     "no second link | link links | made | look aside link ours clear open put | gone",
     "taken, and no links | link denied, open exists | exists | look aside link ours clear open | gone",
-    "no memory, and no links | link denied, open memory | failed | look aside link ours clear open | gone",
-    "the name isn't put away | put full | failed | look aside link clear put | gone",
+    "no memory, and no links | link denied, open memory | memory | look aside link ours clear open | gone",
+    "the name isn't put away | put full | no space | look aside link clear put | gone",
     "the name aside stays | clear denied | made | look aside link clear put | left",
-    "it stays behind a failed write | write full, clear denied | failed | look aside clear | left",
+    "it stays behind a failed write | write full, clear denied | no space | look aside clear | left",
 ];
 
 /// A name that refuses these calls, and hasn't been looked up.
@@ -288,7 +291,7 @@ fn stands_word(stands: Stands) -> &'static str {
 fn assert_way(alloc: Global, row: &str) -> Result<(), Fail> {
     let mut name = named_by(alloc, cell(row, 1)?);
     let answer = make_file(&mut name, b"ten bytes.");
-    same_text(row, "the answer", cell(row, 2)?, create_word(&answer))?;
+    same_text(row, "the answer", cell(row, 2)?, made_word(&answer))?;
     same_text(row, "the calls", cell(row, 3)?, &name.calls)?;
     same_text(
         row,
@@ -311,7 +314,7 @@ fn links_a_file_once_it_is_whole_and_lasts(rt: HostRuntime) -> Result<(), Fail> 
 fn gives_up_where_each_name_aside_is_taken(rt: HostRuntime) -> Result<(), Fail> {
     let mut name = named_by(rt.alloc(), "aside exists, again exists");
     let answer = make_file(&mut name, b"x");
-    same_text("all taken", "the answer", "failed", create_word(&answer))?;
+    same_text("all taken", "the answer", "other", made_word(&answer))?;
     assert_eq!(rt; name.calls.len(), "look aside".len() + 99 * " again".len());
     Ok(())
 }
@@ -321,26 +324,26 @@ fn gives_up_where_each_name_aside_is_taken(rt: HostRuntime) -> Result<(), Fail> 
 const DRAFTS: [&str; 18] = [
     "a new file | | made | look aside link clear put | gone",
     "the name is taken | look exists | exists | look | gone",
-    "there is no folder | look missing | failed | look | gone",
+    "there is no folder | look missing | no folder | look | gone",
     "there is no memory | look memory | no memory | look | gone",
-    "no file can be made | aside denied | failed | look aside | gone",
+    "no file can be made | aside denied | no permission | look aside | gone",
     "no memory for a name aside | aside memory | no memory | look aside | gone",
-    "the owner isn't let in | admit denied | failed | look aside clear | gone",
-    "a write fails, and it is given up | write full | failed | look aside clear | gone",
+    "the owner isn't let in | admit denied | no space | look aside clear | gone",
+    "a write fails, and it is given up | write full | no space | look aside clear | gone",
     "the name was taken since | link exists | exists | look aside link ours clear | gone",
-    "another failure of the link | link full | failed | look aside link ours clear | gone",
+    "another failure of the link | link full | no space | look aside link ours clear | gone",
     "a link lost on its way | link full, ours so | made | look aside link ours clear put | gone",
     "links aren't supported | link unsupported | made | look aside link ours clear open put | gone",
     "taken, and no links | link denied, open exists | exists | look aside link ours clear open | gone",
-    "no memory, and no links | link denied, open memory | failed | look aside link ours clear open | gone",
-    "not read back, and no links | link denied, back so | failed | look aside link ours clear open | gone",
-    "the name isn't put away | put full | failed | look aside link clear put | gone",
+    "no memory, and no links | link denied, open memory | memory | look aside link ours clear open | gone",
+    "not read back, and no links | link denied, back so | changed | look aside link ours clear open | gone",
+    "the name isn't put away | put full | no space | look aside link clear put | gone",
     "the name aside stays | clear denied | made | look aside link clear put | left",
-    "it stays behind one given up | write full, clear denied | failed | look aside clear | left",
+    "it stays behind one given up | write full, clear denied | no space | look aside clear | left",
 ];
 
 /// Writes ten bytes to a new file, piece by piece.
-fn write_pieces(file: &mut Page) -> Result<(), Failed> {
+fn write_pieces(file: &mut Page) -> Result<(), Cause> {
     for piece in [b"ten", b" by", b"tes", b".\n\n"] {
         append_piece(file, piece)?;
     }
@@ -348,7 +351,7 @@ fn write_pieces(file: &mut Page) -> Result<(), Failed> {
 }
 
 /// Writes a draft of ten bytes under a name, and gives it up where a write fails.
-fn write_draft(name: &mut Traced<'_>) -> Result<Created, StoreError>
+fn write_draft(name: &mut Traced<'_>) -> Result<Created, FileError>
     requires { stage_of name.old.came ≡ Free }
 {
     let Some(mut file) = begin_file(name)? else {
@@ -356,9 +359,9 @@ fn write_draft(name: &mut Traced<'_>) -> Result<Created, StoreError>
     };
     match write_pieces(&mut file) {
         Ok(()) => finish_file(name, &mut file),
-        Err(_) => {
+        Err(cause) => {
             give_up_file(name);
-            Err(StoreError::Failed)
+            Err(FileError::Failed(cause))
         }
     }
 }
@@ -367,7 +370,7 @@ fn write_draft(name: &mut Traced<'_>) -> Result<Created, StoreError>
 fn assert_draft(alloc: Global, row: &str) -> Result<(), Fail> {
     let mut name = named_by(alloc, cell(row, 1)?);
     let answer = write_draft(&mut name);
-    same_text(row, "the answer", cell(row, 2)?, create_word(&answer))?;
+    same_text(row, "the answer", cell(row, 2)?, made_word(&answer))?;
     same_text(row, "the calls", cell(row, 3)?, &name.calls)?;
     let stands = stands_word(name.stands);
     same_text(row, "the name aside", cell(row, 4)?, stands)

@@ -2,11 +2,12 @@
 
 ghost use Rattle.std.specs.Prelude.{◌≡◌, Some, true};
 
+use crate::folder::causes::{loaded_word, made_word};
 use real_objects::{NewFile, fill_opened, load_opened};
 use std::alloc::Global;
 use std::io::{self, ErrorKind, Read, Write};
 use std::test::Fail;
-use test_words::{create_word, load_word, same_bytes, same_text};
+use test_words::{same_bytes, same_text};
 
 /// The number of no call, for a page that can't be read back.
 pub(crate) const NOT_BACK: u32 = u32::MAX;
@@ -98,7 +99,7 @@ impl NewFile for Page {
     /// A page that fails at no call but this one isn't read back.
     fn read_back(&self, at: u64, buf: &mut [u8]) -> io::Result<usize> {
         if self.fails == NOT_BACK {
-            return Err(io::Error::from(ErrorKind::Other));
+            return Err(io::Error::from(ErrorKind::StaleNetworkFileHandle));
         }
         let mut n = 0usize;
         let mut place = 0u64;
@@ -114,13 +115,19 @@ impl NewFile for Page {
 }
 
 /// Fills a page of which this call fails, or that takes no byte.
-fn assert_unmade(alloc: Global, piece: usize, fails: u32, bytes: &[u8]) -> Result<(), Fail> {
+fn assert_unmade(
+    alloc: Global,
+    piece: usize,
+    fails: u32,
+    bytes: &[u8],
+    want: &str,
+) -> Result<(), Fail> {
     let mut opened = Ok(Page::new(Vec::new(alloc), piece, fails));
     let answer = fill_opened(&mut opened, bytes);
-    let found = create_word(&answer);
-    if found != "failed" {
+    let found = made_word(&answer);
+    if found != want {
         return Err(Fail::new(format_args!(
-            "pieces of {piece}, and call {fails} fails: {found}, and not failed"
+            "pieces of {piece}, and call {fails} fails: {found}, and not {want}"
         )));
     }
     Ok(())
@@ -130,7 +137,7 @@ fn assert_unmade(alloc: Global, piece: usize, fails: u32, bytes: &[u8]) -> Resul
 fn assert_made(alloc: Global) -> Result<(), Fail> {
     let mut opened = Ok(Page::new(Vec::new(alloc), 4, 7));
     let answer = fill_opened(&mut opened, b"ten bytes.");
-    same_text("no call fails", "the answer", "made", create_word(&answer))?;
+    same_text("no call fails", "the answer", "made", made_word(&answer))?;
     let page = opened?;
     if !page.put_away {
         return Err("the file isn't put away".into());
@@ -148,10 +155,10 @@ fn assert_made(alloc: Global) -> Result<(), Fail> {
 #[test]
 fn tells_a_file_as_made_once_all_of_it_lasts(rt: HostRuntime) -> Result<(), Fail> {
     for fails in 1..7 {
-        assert_unmade(rt.alloc(), 4, fails, b"ten bytes.")?;
+        assert_unmade(rt.alloc(), 4, fails, b"ten bytes.", "no space")?;
     }
     assert_made(rt.alloc())?;
-    assert_unmade(rt.alloc(), 0, 0, b"x")
+    assert_unmade(rt.alloc(), 0, 0, b"x", "other")
 }
 
 /// Loads a page of ten bytes under this limit, of which this call fails. So many bytes are counted, behind a
@@ -166,7 +173,7 @@ fn assert_loaded(
     let page = Page::new(b"ten bytes.".to_vec(alloc)?, 4, fails);
     let mut given = 100;
     let answer = load_opened(alloc, Ok(page), limit, &mut given);
-    let found = load_word(&answer, b"ten bytes.");
+    let found = loaded_word(answer, b"ten bytes.");
     let counted = given.wrapping_sub(100);
     if found != want || counted != read {
         return Err(Fail::new(format_args!(
@@ -180,10 +187,10 @@ fn assert_loaded(
 // failure is counted too.
 #[test]
 fn a_failed_read_is_no_end(rt: HostRuntime) -> Result<(), Fail> {
-    assert_loaded(rt.alloc(), 10, 1, "failed", 0)?;
-    assert_loaded(rt.alloc(), 10, 2, "failed", 4)?;
-    assert_loaded(rt.alloc(), 10, 3, "failed", 8)?;
-    assert_loaded(rt.alloc(), 10, 4, "failed", 10)?;
+    assert_loaded(rt.alloc(), 10, 1, "no space", 0)?;
+    assert_loaded(rt.alloc(), 10, 2, "no space", 4)?;
+    assert_loaded(rt.alloc(), 10, 3, "no space", 8)?;
+    assert_loaded(rt.alloc(), 10, 4, "no space", 10)?;
     assert_loaded(rt.alloc(), 10, 5, "bytes", 10)
 }
 
@@ -195,13 +202,17 @@ fn counts_what_was_read_of_a_file_that_is_too_long(rt: HostRuntime) -> Result<()
 }
 
 // A file that may not be read or made is a fault, and not a missing one. A row has the kind of the
-// error, and what a load and a create answer.
+// error, and what a load and a create answer: the cause, where they failed.
 const OPENS: [(ErrorKind, &str, &str); 6] = [
-    (ErrorKind::NotFound, "absent", "failed"),
-    (ErrorKind::NotADirectory, "absent", "failed"),
-    (ErrorKind::AlreadyExists, "failed", "exists"),
-    (ErrorKind::PermissionDenied, "failed", "failed"),
-    (ErrorKind::IsADirectory, "failed", "failed"),
+    (ErrorKind::NotFound, "absent", "no folder"),
+    (ErrorKind::NotADirectory, "absent", "no folder"),
+    (ErrorKind::AlreadyExists, "other", "exists"),
+    (
+        ErrorKind::PermissionDenied,
+        "no permission",
+        "no permission",
+    ),
+    (ErrorKind::IsADirectory, "is a folder", "is a folder"),
     (ErrorKind::OutOfMemory, "no memory", "no memory"),
 ];
 
@@ -214,7 +225,7 @@ fn assert_not_loaded(alloc: Global, kind: ErrorKind, want: &str) -> Result<(), F
     let opened: io::Result<Page> = Err(io::Error::from(kind));
     let mut given = 0;
     let answer = load_opened(alloc, opened, 10, &mut given);
-    let found = load_word(&answer, b"");
+    let found = loaded_word(answer, b"");
     if found != want || given != 0 {
         return Err(unlike_kind(kind, "a load", want, found));
     }
@@ -224,7 +235,7 @@ fn assert_not_loaded(alloc: Global, kind: ErrorKind, want: &str) -> Result<(), F
 fn assert_not_made(kind: ErrorKind, want: &str) -> Result<(), Fail> {
     let mut opened: io::Result<Page> = Err(io::Error::from(kind));
     let answer = fill_opened(&mut opened, b"x");
-    let found = create_word(&answer);
+    let found = made_word(&answer);
     if found != want {
         return Err(unlike_kind(kind, "a create", want, found));
     }

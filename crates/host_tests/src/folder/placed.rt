@@ -2,7 +2,7 @@
 
 ghost use Rattle.std.specs.Prelude.{None};
 
-use real_objects::{DirStore, PlacedFile, read_opened};
+use real_objects::{Cause, DirStore, PlacedFile, read_opened};
 use std::cell::Cell;
 use std::fs;
 use std::io::{self, ErrorKind};
@@ -126,9 +126,8 @@ impl PlacedFile for Zeros {
     }
 }
 
-/// Holds what a read answers to a number of bytes, or to a fault.
-fn answers(found: Result<usize, Failed>, want: Option<usize>) -> Result<(), Fail> {
-    let found = found.ok();
+/// Holds what a read answers to a number of bytes, or to a cause.
+fn answers(found: Result<usize, Cause>, want: Result<usize, Cause>) -> Result<(), Fail> {
     if found != want {
         return Err(Fail::new(format_args!("a read is {found:?}, and not {want:?}")));
     }
@@ -136,11 +135,11 @@ fn answers(found: Result<usize, Failed>, want: Option<usize>) -> Result<(), Fail
 }
 
 // How often a read of four bytes is interrupted, how many it gives then, and what is told.
-const INTERRUPTS: [(u32, usize, Option<usize>); 4] = [
-    (0, 3, Some(3)),
-    (2, 3, Some(3)),
-    (1, 9, Some(4)),
-    (1, 0, None),
+const INTERRUPTS: [(u32, usize, Result<usize, Cause>); 4] = [
+    (0, 3, Ok(3)),
+    (2, 3, Ok(3)),
+    (1, 9, Ok(4)),
+    (1, 0, Err(Cause::Changed)),
 ];
 
 #[test]
@@ -153,5 +152,8 @@ fn reads_again_behind_a_signal() -> Result<(), Fail> {
         answers(read_opened(Ok(file), 7, &mut [0; 4]), want)?;
     }
     let unopened = Err::<Zeros, io::Error>(io::Error::from(ErrorKind::PermissionDenied));
-    answers(read_opened(unopened, 0, &mut [0; 4]), None)
+    answers(
+        read_opened(unopened, 0, &mut [0; 4]),
+        Err(Cause::NoPermission),
+    )
 }
