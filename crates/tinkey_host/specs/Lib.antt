@@ -1,3 +1,4 @@
+pub mod Cause
 pub mod Left
 pub mod NotText
 pub mod Program

@@ -2,6 +2,7 @@
 //! real objects or any others.
 #![tactic(auto)]
 
+mod cause;
 mod left;
 mod not_text;
 mod over_streams;
@@ -10,6 +11,7 @@ mod standard;
 mod terminals;
 mod top;
 
+pub use cause::tell_cause;
 pub use left::tell_left;
 pub use over_streams::start_over_streams;
 pub use progress::Watched;

@@ -7,6 +7,7 @@ ghost use Rattle.tinkey_plans.specs.Ends.{world};
 ghost use Rattle.tinkey_host.specs.Program.{HasRun, HasMet, HasObeyed, HasEnded};
 ghost use Rattle.tinkey_host.specs.Terminals.{is_kept_off, waits};
 
+use crate::cause::tell_cause;
 use crate::left::tell_left;
 use crate::not_text::report_not_text;
 use crate::progress::Watched;
@@ -31,7 +32,8 @@ const NOT_TEXT: u8 = 8;
 const KEPT_OFF: u8 = 4;
 
 /// Obeys the words after the program's name, over standard input, output and error, the system's
-/// random bytes and the files. Then a file that couldn't be removed is reported on standard error.
+/// random bytes and the files. Then standard error gets the cause of a fault of the files, and the
+/// path of a file that couldn't be removed.
 ///
 /// Before a file is opened, each of the three streams is asked whether it is open, and whether it
 /// is a terminal. No contract can say what the system then gives and takes: what holds for the exit
@@ -60,6 +62,10 @@ pub fn program(rt: &HostRuntime) -> ExitCode {
         &mut FileEntropy::new(RandomDevice::new(rt)),
         &mut store,
     );
+    // A run ends with its first fault of the store, so that this is the fault reported.
+    if code == ExitCode::from(Status::StoreFault.code()) {
+        tell_cause(&mut diag, store.cause());
+    }
     tell_left(&mut diag, store.left());
     code
 }
