@@ -19,7 +19,8 @@ pub struct Terminals {
 }
 
 /// The lines on a command that is kept off a terminal.
-const KEPT_OFF: &str = "tinkey: output is a terminal\ntinkey: this isn't for a screen: give --out FILE, or redirect the output\n";
+const KEPT_OFF: &str =
+    "tinkey: output is a terminal\ntinkey: this isn't for a screen: give --out FILE, or redirect the output\n";
 
 /// The line on a command that reads from a terminal.
 const WAITING: &str = "tinkey: reading from the terminal; Ctrl-D ends the input\n";
@@ -77,7 +78,10 @@ fn suits_terminal(request: &Request<'_>) -> bool
             shows_keyset(lock.is_some(), output)
         }
         Request::ConvertKeyset {
-            lock, new, output, ..
+            lock,
+            new,
+            output,
+            ..
         } => shows_keyset(stays_encrypted(lock, new), output),
         Request::UseKeyset { work, output, .. } => is_readable(output) || gives_plaintext(work),
         Request::UseEnvelope { work, output, .. } => output.is_some() || opens_envelope(work),
