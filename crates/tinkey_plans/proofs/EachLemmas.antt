@@ -66,14 +66,14 @@ ended_each P c true s t a other = c.ended s a
 ended_each P c false s t a other = c.ended t other
 
 pub with_keyset_each : (P : Plan → Type 0) → IsClosed P → (from : Origin) (begins : Begins) (locked : Bool → Bool) (r : Result Keys Refusal) (next : Keys → Plan) → AreAll P next → P (with_keyset from begins locked r next)
-with_keyset_each P c from begins locked (Err (Wire at)) next all = ended_each P c (locked false) (status.ProtoLocked at) (status.BadProto at from begins) tt tt
-with_keyset_each P c from begins locked (Err (Fault fault)) next all = ended_each P c (locked true) (status.KeysetLocked fault) (status.Keyset fault) tt tt
+with_keyset_each P c from begins locked (Err (Wire at)) next all = ended_each P c (locked false) (status.ProtoLocked at from) (status.BadProto at from begins) tt tt
+with_keyset_each P c from begins locked (Err (Fault fault)) next all = ended_each P c (locked true) (status.KeysetLocked fault from) (status.Keyset fault) tt tt
 with_keyset_each P c from begins locked (Ok keys) next all = all keys
 
 pub with_json_each : (P : Plan → Type 0) → IsClosed P → (from : Origin) (begins : Begins) (locked : Bool) (r : Result Keys Json.Refusal) (next : Keys → Plan) → AreAll P next → P (with_json from begins locked r next)
 with_json_each P c from begins locked (Err Json.NotJson) next all = c.ended _ _
 with_json_each P c from begins locked (Err (Json.Shape path)) next all = c.ended _ _
-with_json_each P c from begins locked (Err (Json.Fault fault)) next all = ended_each P c (locked && has_no_key fault) (status.KeysetLocked fault) (status.Keyset fault) tt tt
+with_json_each P c from begins locked (Err (Json.Fault fault)) next all = ended_each P c (locked && has_no_key fault) (status.KeysetLocked fault from) (status.Keyset fault) tt tt
 with_json_each P c from begins locked (Ok keys) next all = all keys
 
 pub keyset_each : (P : Plan → Type 0) → IsClosed P → (from : Origin) (form : Format) (bytes : List ℕ) (next : Keys → Plan) → AreAll P next → P (keyset_in from form bytes next)

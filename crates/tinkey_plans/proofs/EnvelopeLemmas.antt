@@ -182,14 +182,14 @@ clear_either true s t a other first second = clear_end s a first
 clear_either false s t a other first second = clear_end t other second
 
 clear_binary : (from : Origin) (begins : Begins) (locked : Bool → Bool) (r : Result Keys Refusal) (next : Keys → Plan) → ((keys : Keys) → Clears (next keys)) → Clears (with_keyset from begins locked r next)
-clear_binary from begins locked (Err (Wire at)) next clear = clear_either (locked false) (status.ProtoLocked at) (status.BadProto at from begins) tt tt (λ d. d) (λ d. d)
-clear_binary from begins locked (Err (Fault fault)) next clear = clear_either (locked true) (status.KeysetLocked fault) (status.Keyset fault) tt tt (λ d. d) (λ d. d)
+clear_binary from begins locked (Err (Wire at)) next clear = clear_either (locked false) (status.ProtoLocked at from) (status.BadProto at from begins) tt tt (λ d. d) (λ d. d)
+clear_binary from begins locked (Err (Fault fault)) next clear = clear_either (locked true) (status.KeysetLocked fault from) (status.Keyset fault) tt tt (λ d. d) (λ d. d)
 clear_binary from begins locked (Ok keys) next clear = clear keys
 
 clear_json : (from : Origin) (begins : Begins) (locked : Bool) (r : Result Keys Json.Refusal) (next : Keys → Plan) → ((keys : Keys) → Clears (next keys)) → Clears (with_json from begins locked r next)
 clear_json from begins locked (Err Json.NotJson) next clear = clear_end (status.NotJson from begins) tt (λ d. d)
 clear_json from begins locked (Err (Json.Shape path)) next clear = clear_end (status.Shape path from) tt (λ d. d)
-clear_json from begins locked (Err (Json.Fault fault)) next clear = clear_either (locked && has_no_key fault) (status.KeysetLocked fault) (status.Keyset fault) tt tt (λ d. d) (λ d. d)
+clear_json from begins locked (Err (Json.Fault fault)) next clear = clear_either (locked && has_no_key fault) (status.KeysetLocked fault from) (status.Keyset fault) tt tt (λ d. d) (λ d. d)
 clear_json from begins locked (Ok keys) next clear = clear keys
 
 clear_keyset : (from : Origin) (form : Format) (bytes : List ℕ) (next : Keys → Plan) → ((keys : Keys) → Clears (next keys)) → Clears (keyset_in from form bytes next)

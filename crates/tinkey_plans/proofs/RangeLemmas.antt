@@ -93,23 +93,23 @@ record WentOn {A : Type 0} (Is : A → Type 0) (next : A → Plan) (old : World)
   is : Is value
   run : Ends (next value) old s new
 
-faulty_ends : (b : Bool) (fault : KeysetFault) (old : World) (s : Status) (new : World) → Ends (if b then ends (status.KeysetLocked fault) tt else ends (status.Keyset fault) tt) old s new → old ≡ new
-faulty_ends true fault old s new (is, same) = same
-faulty_ends false fault old s new (is, same) = same
+faulty_ends : (from : Origin) (b : Bool) (fault : KeysetFault) (old : World) (s : Status) (new : World) → Ends (if b then ends (status.KeysetLocked fault from) tt else ends (status.Keyset fault) tt) old s new → old ≡ new
+faulty_ends from true fault old s new (is, same) = same
+faulty_ends from false fault old s new (is, same) = same
 
-wire_ends : (from : Origin) (begins : Begins) (b : Bool) (at : ℕ) (old : World) (s : Status) (new : World) → Ends (if b then ends (status.ProtoLocked at) tt else ends (status.BadProto at from begins) tt) old s new → old ≡ new
+wire_ends : (from : Origin) (begins : Begins) (b : Bool) (at : ℕ) (old : World) (s : Status) (new : World) → Ends (if b then ends (status.ProtoLocked at from) tt else ends (status.BadProto at from begins) tt) old s new → old ≡ new
 wire_ends from begins true at old s new (is, same) = same
 wire_ends from begins false at old s new (is, same) = same
 
 json_ends : (from : Origin) (begins : Begins) (locked : Bool) (r : Result Keys Json.Refusal) (bytes : List ℕ) (next : Keys → Plan) (old : World) (s : Status) (new : World) → reads_json bytes ≡ r → Ends (with_json from begins locked r next) old s new → (old ≡ new) ⊎ WentOn (λ keys. reads_json bytes ≡ Ok keys) next old s new
 json_ends from begins locked (Err Json.NotJson) bytes next old s new r (is, same) = inl same
 json_ends from begins locked (Err (Json.Shape path)) bytes next old s new r (is, same) = inl same
-json_ends from begins locked (Err (Json.Fault fault)) bytes next old s new r run = inl (faulty_ends (locked && has_no_key fault) fault old s new run)
+json_ends from begins locked (Err (Json.Fault fault)) bytes next old s new r run = inl (faulty_ends from (locked && has_no_key fault) fault old s new run)
 json_ends from begins locked (Ok keys) bytes next old s new r run = inr (record { value = keys; is = r; run = run })
 
 binary_ends : (from : Origin) (begins : Begins) (locked : Bool → Bool) (r : Result Keys Refusal) (bytes : List ℕ) (next : Keys → Plan) (old : World) (s : Status) (new : World) → reads_binary bytes ≡ r → Ends (with_keyset from begins locked r next) old s new → (old ≡ new) ⊎ WentOn (λ keys. reads_binary bytes ≡ Ok keys) next old s new
 binary_ends from begins locked (Err (Wire at)) bytes next old s new r run = inl (wire_ends from begins (locked false) at old s new run)
-binary_ends from begins locked (Err (Fault fault)) bytes next old s new r run = inl (faulty_ends (locked true) fault old s new run)
+binary_ends from begins locked (Err (Fault fault)) bytes next old s new r run = inl (faulty_ends from (locked true) fault old s new run)
 binary_ends from begins locked (Ok keys) bytes next old s new r run = inr (record { value = keys; is = r; run = run })
 
 keyset_ends : (from : Origin) (form : Format) (bytes : List ℕ) (next : Keys → Plan) (old : World) (s : Status) (new : World) → Ends (keyset_in from form bytes next) old s new → (old ≡ new) ⊎ WentOn (λ keys. IsKeysetIn form bytes keys) next old s new

@@ -4,7 +4,8 @@
 --   begins_of      how bytes begin
 --   file_text      what is read: the file that an option gives, or standard input
 --   format_text    the option that gives its form
---   missing_line, not_json_line, not_proto_line, file_line   the second lines that tell it
+--   locked_text    what serves for an encrypted one
+--   missing_line, not_json_line, not_proto_line, file_line, locked_line   the second lines that tell it
 use Rattle.std.specs.Prelude.{ℕ, Bool, false, List, ◌++◌, ◌||◌, drop, nat_eq, slice_get, Option, Some, None, if◌then◌else◌, codes}
 use Rattle.std.specs.Char.{is_ascii_whitespace}
 use Rattle.std.specs.List.{prefix_len}
@@ -56,6 +57,15 @@ format_text origins.OnlyMaster = codes "--master-format or --new-master-format"
 format_text origins.In = codes "--in-format"
 format_text origins.StandardInput = codes "--in-format"
 
+-- what an encrypted keyset is, where one in clear is read
+unfoldable pub locked_text : Origin → List ℕ
+locked_text origins.Keyset = codes "which --master FILE opens"
+locked_text origins.Master = codes "and a master has to be in clear"
+locked_text origins.NewMaster = codes "and a master has to be in clear"
+locked_text origins.OnlyMaster = codes "and a master has to be in clear"
+locked_text origins.In = codes "which --master FILE opens"
+locked_text origins.StandardInput = codes "which --master FILE opens"
+
 -- the file isn't there
 abbrev pub missing_line : Origin → List ℕ
 missing_line from = codes "tinkey: " ++ file_text from ++ codes " is not there\n"
@@ -63,6 +73,11 @@ missing_line from = codes "tinkey: " ++ file_text from ++ codes " is not there\n
 -- it is the one that is meant
 abbrev pub file_line : Origin → List ℕ
 file_line from = codes "tinkey: it is " ++ file_text from ++ codes "\n"
+
+-- it is an encrypted keyset
+abbrev pub locked_line : Origin → List ℕ
+locked_line from =
+    codes "tinkey: " ++ file_text from ++ codes " is an encrypted keyset, " ++ locked_text from ++ codes "\n"
 
 -- it isn't JSON, and begins so
 abbrev pub not_json_line : Origin → Begins → List ℕ

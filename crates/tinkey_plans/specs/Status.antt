@@ -12,7 +12,7 @@ use Rattle.tinkey_session.specs.Texts.{line_refusal_text, refusal_text}
 use Rattle.tinkey_plans.specs.Advice.{advice}
 use Rattle.tinkey_plans.specs.Help.{help_text}
 use Rattle.tinkey_plans.specs.Misfits.{misfit_line}
-use Rattle.tinkey_plans.specs.Origins.{file_line, missing_line, not_json_line, not_proto_line}
+use Rattle.tinkey_plans.specs.Origins.{file_line, locked_line, missing_line, not_json_line, not_proto_line}
 use Rattle.tinkey_plans.specs.Sealers.{sealer_line}
 use Rattle.tinkey_plans.specs.declared.status.Status.{Status}
 use Rattle.tinkey_plans.specs.declared.status.Status.TheVariants as status
@@ -34,12 +34,12 @@ code_of status.DekTemplate = 2
 code_of (status.Refused (refused.OutputTooLong asked greatest)) = 2
 code_of status.PastEnd = 2
 code_of (status.BadProto at from begins) = 3
-code_of (status.ProtoLocked at) = 3
+code_of (status.ProtoLocked at from) = 3
 code_of (status.NotJson from begins) = 3
 code_of (status.Shape path from) = 3
 code_of (status.WrappedMember from) = 3
 code_of (status.Keyset fault) = 3
-code_of (status.KeysetLocked fault) = 3
+code_of (status.KeysetLocked fault from) = 3
 code_of (status.Refused (refused.NoManager i)) = 3
 code_of (status.Refused (refused.BadKey i rule)) = 3
 code_of (status.Refused (refused.NotRaw i)) = 3
@@ -92,12 +92,12 @@ text_of (status.StreamFailed number) = codes "stream failed at segment " ++ deci
 text_of status.NoWords = codes "usage: word 0"
 text_of (status.Usage misuse) = codes "usage: word " ++ decimal misuse.place
 text_of (status.BadProto at from begins) = codes "bad protobuf at byte " ++ decimal at
-text_of (status.ProtoLocked at) = codes "bad protobuf at byte " ++ decimal at
+text_of (status.ProtoLocked at from) = codes "bad protobuf at byte " ++ decimal at
 text_of (status.NotJson from begins) = codes "not JSON"
 text_of (status.Shape path from) = codes "bad JSON member " ++ name_of path.member ++ key_text path.key
 text_of (status.WrappedMember from) = codes "bad JSON member encryptedKeyset"
 text_of (status.Keyset fault) = fault_text fault
-text_of (status.KeysetLocked fault) = fault_text fault
+text_of (status.KeysetLocked fault from) = fault_text fault
 text_of status.KeysetTooLong = codes "keyset too long"
 text_of (status.InMissing from) = codes "input file missing"
 text_of status.StreamMissing = codes "input file missing"
@@ -122,10 +122,7 @@ unfoldable pub line_of : Status → List ℕ
 line_of status.Done = []
 line_of other = codes "tinkey: " ++ text_of other ++ codes "\n"
 
--- the second lines of a keyset that is encrypted, and of one that isn't
-unfoldable pub locked_line : List ℕ
-locked_line = codes "tinkey: this is an encrypted keyset, which --master FILE opens\n"
-
+-- the second line of a keyset that isn't encrypted
 unfoldable pub in_clear_line : List ℕ
 in_clear_line = codes "tinkey: this is a keyset in clear: leave --master out\n"
 
@@ -137,8 +134,8 @@ unfoldable pub behind_line : Status → List ℕ
 behind_line status.NoWords = help_text topics.Commands
 behind_line (status.Usage misuse) = misfit_line misuse.why
 behind_line (status.OpenFailed what sealer) = sealer_line what sealer
-behind_line (status.ProtoLocked at) = locked_line
-behind_line (status.KeysetLocked fault) = locked_line
+behind_line (status.ProtoLocked at from) = locked_line from
+behind_line (status.KeysetLocked fault from) = locked_line from
 behind_line status.KeysetInClear = in_clear_line
 behind_line (status.InMissing from) = missing_line from
 behind_line (status.NotJson from begins) = not_json_line from begins

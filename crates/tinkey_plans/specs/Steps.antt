@@ -52,19 +52,20 @@ sealed_limit = 16778240
 -- fault. One that is an encrypted keyset is told as that, too.
 abbrev pub wire_status : Origin → Begins → (locked : Bool) → (at : ℕ) → Status
 wire_status from begins locked at =
-    if locked then status.ProtoLocked at else status.BadProto at from begins
+    if locked then status.ProtoLocked at from else status.BadProto at from begins
 
-abbrev pub fault_status : (locked : Bool) → KeysetFault → Status
-fault_status locked fault = if locked then status.KeysetLocked fault else status.Keyset fault
+abbrev pub fault_status : Origin → (locked : Bool) → KeysetFault → Status
+fault_status from locked fault =
+    if locked then status.KeysetLocked fault from else status.Keyset fault
 
 -- they are the answer
 abbrev pub ends_at : Origin → Begins → (locked : Bool) → (at : ℕ) → Plan
 ends_at from begins locked at =
-    if locked then ends (status.ProtoLocked at) tt else ends (status.BadProto at from begins) tt
+    if locked then ends (status.ProtoLocked at from) tt else ends (status.BadProto at from begins) tt
 
-abbrev pub ends_faulty : (locked : Bool) → KeysetFault → Plan
-ends_faulty locked fault =
-    if locked then ends (status.KeysetLocked fault) tt else ends (status.Keyset fault) tt
+abbrev pub ends_faulty : Origin → (locked : Bool) → KeysetFault → Plan
+ends_faulty from locked fault =
+    if locked then ends (status.KeysetLocked fault from) tt else ends (status.Keyset fault) tt
 
 -- the status is this one, or memory was refused while it was settled
 abbrev pub OrStarved : Status → Status → Type 0
@@ -76,14 +77,14 @@ OrStarved s result = (result ≡ s) ⊎ (result ≡ status.NoMemory)
 -- info to tell it from a keyset in clear.
 abbrev pub refusal_of : Origin → Begins → (locked : (informed : Bool) → Bool) → ReadError → Status
 refusal_of from begins locked (errors.Wire wire) = wire_status from begins (locked false) wire.at
-refusal_of from begins locked (errors.Fault fault) = fault_status (locked true) fault
+refusal_of from begins locked (errors.Fault fault) = fault_status from (locked true) fault
 refusal_of from begins locked errors.NoMemory = status.NoMemory
 
 -- the keyset goes on, or its refusal is the answer
 abbrev pub with_keyset : Origin → Begins → (locked : (informed : Bool) → Bool) → Result Keys Refusal
     → (Keys → Plan) → Plan
 with_keyset from begins locked (Err (Wire at)) next = ends_at from begins (locked false) at
-with_keyset from begins locked (Err (Fault fault)) next = ends_faulty (locked true) fault
+with_keyset from begins locked (Err (Fault fault)) next = ends_faulty from (locked true) fault
 with_keyset from begins locked (Ok keys) next = next keys
 
 -- ---- JSON
@@ -98,7 +99,7 @@ abbrev pub json_refusal_of : Origin → Begins → (locked : Bool) → JsonError
 json_refusal_of from begins locked json_errors.NotJson = status.NotJson from begins
 json_refusal_of from begins locked (json_errors.Shape path) = status.Shape path from
 json_refusal_of from begins locked (json_errors.Fault fault) =
-    fault_status (locked && has_no_key fault) fault
+    fault_status from (locked && has_no_key fault) fault
 json_refusal_of from begins locked json_errors.NoMemory = status.NoMemory
 
 -- The keyset goes on, or what is wrong with its JSON is the answer. One that has no key because it is encrypted
@@ -106,7 +107,7 @@ json_refusal_of from begins locked json_errors.NoMemory = status.NoMemory
 abbrev pub with_json : Origin → Begins → (locked : Bool) → Result Keys Json.Refusal → (Keys → Plan) → Plan
 with_json from begins locked (Err Json.NotJson) next = ends (status.NotJson from begins) tt
 with_json from begins locked (Err (Json.Shape path)) next = ends (status.Shape path from) tt
-with_json from begins locked (Err (Json.Fault fault)) next = ends_faulty (locked && has_no_key fault) fault
+with_json from begins locked (Err (Json.Fault fault)) next = ends_faulty from (locked && has_no_key fault) fault
 with_json from begins locked (Ok keys) next = next keys
 
 -- ---- a keyset in either form

@@ -3,13 +3,13 @@
 ghost use Rattle.std.specs.Prelude.{◌≡◌, ◌+◌, ◌≤◌, ◌++◌, length, codes, decimal};
 ghost use Rattle.keyset_json.specs.Members.{name_of};
 ghost use Rattle.tinkey_session.specs.Texts.{line_refusal_text, refusal_text};
-ghost use Rattle.tinkey_plans.specs.Status.{key_text, line_of, behind_line, locked_line, in_clear_line, text_of, fault_text, Reports, Wrote};
+ghost use Rattle.tinkey_plans.specs.Status.{key_text, line_of, behind_line, in_clear_line, text_of, fault_text, Reports, Wrote};
 ghost use Rattle.tinkey_cmds.specs.declared.command.CmdFault.TheVariants as edits;
 ghost use Rattle.tinkey_session.specs.declared.reply.Refusal.TheVariants as refused;
 
 use crate::advice::advice;
 use crate::misfit::misfit_line;
-use crate::origin::{file_line, missing_line, not_json_line, not_proto_line};
+use crate::origin::{file_line, locked_line, missing_line, not_json_line, not_proto_line};
 use crate::sealer::sealer_line;
 use crate::{Status, help_text};
 use key_msgs::Rule;
@@ -44,9 +44,8 @@ fn write_behind<G: Sink>(diag: &mut G, status: Status)
         Status::OpenFailed(what, sealer) => {
             write_text(diag, sealer_line(what, sealer).as_slice());
         }
-        Status::ProtoLocked(_) | Status::KeysetLocked(_) => {
-            write_text(diag, locked_line().as_slice());
-        }
+        Status::ProtoLocked(_, from) => write_text(diag, locked_line(from).as_slice()),
+        Status::KeysetLocked(_, from) => write_text(diag, locked_line(from).as_slice()),
         Status::KeysetInClear => write_text(diag, in_clear_line().as_slice()),
         Status::InMissing(from) => write_text(diag, missing_line(from).as_slice()),
         Status::NotJson(from, begins) => write_text(diag, not_json_line(from, begins).as_slice()),
@@ -57,16 +56,6 @@ fn write_behind<G: Sink>(diag: &mut G, status: Status)
         Status::WrappedMember(from) => write_text(diag, file_line(from).as_slice()),
         _ => write_text(diag, advice(status).as_bytes()),
     }
-}
-
-/// The second line of a keyset that is encrypted.
-#[tactic(auto, unfolding(crate::specs::Status::locked_line))]
-fn locked_line() -> ShortText
-    ensures { result ≡ locked_line }
-{
-    let mut line = ShortText::new();
-    line.push("tinkey: this is an encrypted keyset, which --master FILE opens\n");
-    line
 }
 
 /// The second line of a keyset that is in clear.
@@ -132,11 +121,11 @@ fn push_text(line: &mut ShortText, status: Status)
             line.push("usage: word ");
             line.push_number(misuse.place);
         }
-        Status::BadProto(at, _, _) | Status::ProtoLocked(at) => push_place(line, at),
+        Status::BadProto(at, _, _) | Status::ProtoLocked(at, _) => push_place(line, at),
         Status::NotJson(_, _) => line.push("not JSON"),
         Status::Shape(path, _) => push_path(line, path),
         Status::WrappedMember(_) => line.push("bad JSON member encryptedKeyset"),
-        Status::Keyset(fault) | Status::KeysetLocked(fault) => push_fault(line, fault),
+        Status::Keyset(fault) | Status::KeysetLocked(fault, _) => push_fault(line, fault),
         Status::KeysetTooLong => line.push("keyset too long"),
         Status::InMissing(_) | Status::StreamMissing => line.push("input file missing"),
         Status::InputTooLong => line.push("input too long"),

@@ -1,7 +1,7 @@
 //! Where a keyset comes from and how its bytes begin, and the second lines that report it.
 
 ghost use Rattle.std.specs.Prelude.{◌≡◌, ◌+◌, ◌≤◌, ◌++◌, codes, length, slice_get};
-ghost use Rattle.tinkey_plans.specs.Origins.{begins_of, file_line, file_text, first_dark, format_text, is_brace, is_front_tag, missing_line, not_json_line, not_proto_line};
+ghost use Rattle.tinkey_plans.specs.Origins.{begins_of, file_line, file_text, first_dark, format_text, is_brace, is_front_tag, locked_line, locked_text, missing_line, not_json_line, not_proto_line};
 
 use tinkey_session::ShortText;
 
@@ -94,6 +94,17 @@ pub(crate) fn file_line(from: Origin) -> ShortText
     line
 }
 
+/// The second line if the file is an encrypted keyset, where one in clear is read.
+pub(crate) fn locked_line(from: Origin) -> ShortText
+    ensures { result ≡ locked_line from }
+{
+    let mut line = line_of_file(from);
+    line.push(" is an encrypted keyset, ");
+    line.push(locked_text(from));
+    line.push("\n");
+    line
+}
+
 /// The second line if the file isn't JSON, and begins so.
 pub(crate) fn not_json_line(from: Origin, begins: Begins) -> ShortText
     ensures { result ≡ not_json_line from begins }
@@ -151,6 +162,20 @@ fn file_text(from: Origin) -> &'static str
         Origin::OnlyMaster => "the file of the master",
         Origin::In => "the file that --in gives",
         Origin::StandardInput => "standard input",
+    }
+}
+
+/// What an encrypted keyset is, where one in clear is read.
+#[tactic(auto, unfolding(crate::specs::Origins::locked_text))]
+fn locked_text(from: Origin) -> &'static str
+    ensures text { result.now ≡ locked_text from }
+    ensures short { length result.now ≤ 32 }
+{
+    match from {
+        Origin::Keyset | Origin::In | Origin::StandardInput => "which --master FILE opens",
+        Origin::Master | Origin::NewMaster | Origin::OnlyMaster => {
+            "and a master has to be in clear"
+        }
     }
 }
 

@@ -42,7 +42,7 @@ pub enum Status {
     /// begins so; of a place inside an encrypted keyset, nothing is said of how the text around it begins.
     BadProto(usize, Origin, Begins),
     /// The same for a keyset whose bytes are an encrypted keyset.
-    ProtoLocked(usize),
+    ProtoLocked(usize, Origin),
     /// The keyset from there, which begins so, isn't JSON.
     NotJson(Origin, Begins),
     /// This member of the keyset from there is the first that isn't of its form.
@@ -52,8 +52,8 @@ pub enum Status {
     WrappedMember(Origin),
     /// The keyset has this fault.
     Keyset(KeysetFault),
-    /// The keyset has this fault, and its text is an encrypted keyset.
-    KeysetLocked(KeysetFault),
+    /// The keyset from there has this fault, and its text is an encrypted keyset.
+    KeysetLocked(KeysetFault, Origin),
     /// The keyset has more than 1,048,576 bytes, or a wrapped one more than 4,194,304.
     KeysetTooLong,
     /// The file of the keyset that this option gives is missing.
@@ -114,12 +114,12 @@ impl Status {
             | Status::DekTemplate
             | Status::PastEnd => 2,
             Status::BadProto(_, _, _)
-            | Status::ProtoLocked(_)
+            | Status::ProtoLocked(_, _)
             | Status::NotJson(_, _)
             | Status::Shape(_, _)
             | Status::WrappedMember(_)
             | Status::Keyset(_)
-            | Status::KeysetLocked(_)
+            | Status::KeysetLocked(_, _)
             | Status::Refused(Refusal::NoManager(_) | Refusal::BadKey(_, _) | Refusal::NotRaw(_))
             | Status::NoDekManager
             | Status::DekRefused(_) => 3,

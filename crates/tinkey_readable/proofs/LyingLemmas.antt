@@ -70,11 +70,11 @@ bytes_taken from limit None bytes next told there within =
 
 -- ---- a keyset
 
-not_faulty : (b : Bool) (fault : KeysetFault) (told : Told) → IsDoneAnswer (answer (if b then ends (status.KeysetLocked fault) tt else ends (status.Keyset fault) tt) told) → ⊥
-not_faulty true fault told done = cc
-not_faulty false fault told done = cc
+not_faulty : (from : Origin) (b : Bool) (fault : KeysetFault) (told : Told) → IsDoneAnswer (answer (if b then ends (status.KeysetLocked fault from) tt else ends (status.Keyset fault) tt) told) → ⊥
+not_faulty from true fault told done = cc
+not_faulty from false fault told done = cc
 
-not_cut : (from : Origin) (begins : Begins) (b : Bool) (at : ℕ) (told : Told) → IsDoneAnswer (answer (if b then ends (status.ProtoLocked at) tt else ends (status.BadProto at from begins) tt) told) → ⊥
+not_cut : (from : Origin) (begins : Begins) (b : Bool) (at : ℕ) (told : Told) → IsDoneAnswer (answer (if b then ends (status.ProtoLocked at from) tt else ends (status.BadProto at from begins) tt) told) → ⊥
 not_cut from begins true at told done = cc
 not_cut from begins false at told done = cc
 
@@ -85,13 +85,13 @@ read_there from formats.Json bytes next told done = by (reads_json bytes) done
     by (Ok keys) done = (keys, refl)
     by (Err json.NotJson) done = absurd (cc)
     by (Err (json.Shape path)) done = absurd (cc)
-    by (Err (json.Fault fault)) done = absurd (not_faulty (is_wrapped_json bytes && has_no_key fault) fault told done)
+    by (Err (json.Fault fault)) done = absurd (not_faulty from (is_wrapped_json bytes && has_no_key fault) fault told done)
 read_there from formats.Binary bytes next told done = by (reads_binary bytes) done
   where
     by : (r : Result Keys binary.Refusal) → IsDoneAnswer (answer (with_keyset from (begins_of bytes) (is_wrapped_binary bytes) r next) told) → (keys : Keys) × (result_ok r ≡ Some keys)
     by (Ok keys) done = (keys, refl)
     by (Err (binary.Wire at)) done = absurd (not_cut from (begins_of bytes) (is_wrapped_binary bytes false) at told done)
-    by (Err (binary.Fault fault)) done = absurd (not_faulty (is_wrapped_binary bytes true) fault told done)
+    by (Err (binary.Fault fault)) done = absurd (not_faulty from (is_wrapped_binary bytes true) fault told done)
 
 not_unopened : (clear : Bool) (sealer : Sealer) (told : Told) → IsDoneAnswer (answer (ends_unopened clear sealer) told) → ⊥
 not_unopened true sealer told done = cc

@@ -17,18 +17,18 @@ use Rattle.tinkey_plans.specs.declared.origin.Origin.{Origin}
 use Rattle.tinkey_plans.specs.declared.status.Status.{Status}
 use Rattle.tinkey_plans.specs.declared.status.Status.TheVariants as status
 
-faulty : (b : Bool) (fault : KeysetFault) (w : World) → Ends (if b then ends (status.KeysetLocked fault) tt else ends (status.Keyset fault) tt) w (if b then status.KeysetLocked fault else status.Keyset fault) w
-faulty true fault w = (refl, refl)
-faulty false fault w = (refl, refl)
+faulty : (from : Origin) (b : Bool) (fault : KeysetFault) (w : World) → Ends (if b then ends (status.KeysetLocked fault from) tt else ends (status.Keyset fault) tt) w (if b then status.KeysetLocked fault from else status.Keyset fault) w
+faulty from true fault w = (refl, refl)
+faulty from false fault w = (refl, refl)
 
-uncut : (from : Origin) (begins : Begins) (b : Bool) (at : ℕ) (w : World) → Ends (if b then ends (status.ProtoLocked at) tt else ends (status.BadProto at from begins) tt) w (if b then status.ProtoLocked at else status.BadProto at from begins) w
+uncut : (from : Origin) (begins : Begins) (b : Bool) (at : ℕ) (w : World) → Ends (if b then ends (status.ProtoLocked at from) tt else ends (status.BadProto at from begins) tt) w (if b then status.ProtoLocked at from else status.BadProto at from begins) w
 uncut from begins true at w = (refl, refl)
 uncut from begins false at w = (refl, refl)
 
 json_so : (from : Origin) (begins : Begins) (locked : Bool) (read : Result Keys json.Refusal) (e : JsonError) (w : World) → json.GivesKeyset (Err e) read → (next : Keys → Plan) → Ends (allocates (with_json from begins locked read next)) w (json_refusal_of from begins locked e) w
 json_so from begins locked read json_errors.NotJson w is next = inl (rw is (refl, refl))
 json_so from begins locked read (json_errors.Shape path) w is next = inl (rw is (refl, refl))
-json_so from begins locked read (json_errors.Fault fault) w is next = inl (rw is (faulty (locked && has_no_key fault) fault w))
+json_so from begins locked read (json_errors.Fault fault) w is next = inl (rw is (faulty from (locked && has_no_key fault) fault w))
 json_so from begins locked read json_errors.NoMemory w is next = inr (refl, refl)
 
 -- the status of a keyset that isn't read as JSON, or of want of memory
@@ -38,7 +38,7 @@ json_refused from begins locked read e s w (inr starved) why next = inr (starved
 
 binary_so : (from : Origin) (begins : Begins) (locked : Bool → Bool) (read : Result Keys binary.Refusal) (e : ReadError) (w : World) → binary.GivesKeyset (Err e) read → (next : Keys → Plan) → Ends (allocates (with_keyset from begins locked read next)) w (refusal_of from begins locked e) w
 binary_so from begins locked read (errors.Wire wire) w is next = inl (rw is (uncut from begins (locked false) wire.at w))
-binary_so from begins locked read (errors.Fault fault) w is next = inl (rw is (faulty (locked true) fault w))
+binary_so from begins locked read (errors.Fault fault) w is next = inl (rw is (faulty from (locked true) fault w))
 binary_so from begins locked read errors.NoMemory w is next = inr (refl, refl)
 
 -- the same of one that isn't read in the binary form

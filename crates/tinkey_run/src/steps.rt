@@ -134,19 +134,19 @@ fn json_refusal(alloc: Global, from: Origin, bytes: &[u8], e: JsonError) -> Stat
     match e {
         JsonError::NotJson => Status::NotJson(from, begins_of(bytes)),
         JsonError::Shape(path) => Status::Shape(path, from),
-        JsonError::Fault(fault) => json_fault(alloc, bytes, fault),
+        JsonError::Fault(fault) => json_fault(alloc, from, bytes, fault),
         JsonError::NoMemory => Status::NoMemory,
     }
 }
 
 /// The status of a keyset with this fault, read from these bytes as JSON: one that has no key
 /// because it is encrypted is reported as encrypted.
-fn json_fault(alloc: Global, bytes: &[u8], fault: KeysetFault) -> Status
-    ensures { OrStarved (fault_status (is_wrapped_json bytes.now && has_no_key fault) fault) result }
+fn json_fault(alloc: Global, from: Origin, bytes: &[u8], fault: KeysetFault) -> Status
+    ensures { OrStarved (fault_status from (is_wrapped_json bytes.now && has_no_key fault) fault) result }
 {
     match fault {
         KeysetFault::Empty => match is_wrapped_json(alloc, bytes) {
-            Ok(true) => Status::KeysetLocked(fault),
+            Ok(true) => Status::KeysetLocked(fault, from),
             Ok(false) => Status::Keyset(fault),
             Err(NoMemory) => Status::NoMemory,
         },
@@ -161,7 +161,7 @@ fn refusal(alloc: Global, from: Origin, bytes: &[u8], e: ReadError) -> Status
 {
     match e {
         ReadError::Wire(wire) => wire_status(alloc, from, bytes, wire.at),
-        ReadError::Fault(fault) => fault_status(alloc, bytes, fault),
+        ReadError::Fault(fault) => fault_status(alloc, from, bytes, fault),
         ReadError::NoMemory => Status::NoMemory,
     }
 }
@@ -172,7 +172,7 @@ fn wire_status(alloc: Global, from: Origin, bytes: &[u8], at: usize) -> Status
         result }
 {
     match is_wrapped_binary(alloc, bytes, false) {
-        Ok(true) => Status::ProtoLocked(at),
+        Ok(true) => Status::ProtoLocked(at, from),
         Ok(false) => Status::BadProto(at, from, begins_of(bytes)),
         Err(NoMemory) => Status::NoMemory,
     }
@@ -180,11 +180,11 @@ fn wire_status(alloc: Global, from: Origin, bytes: &[u8], at: usize) -> Status
 
 /// The status of a keyset with this fault, all of whose keys were read from these bytes: it counts
 /// as encrypted only with an info.
-fn fault_status(alloc: Global, bytes: &[u8], fault: KeysetFault) -> Status
-    ensures { OrStarved (fault_status (is_wrapped_binary bytes.now true) fault) result }
+fn fault_status(alloc: Global, from: Origin, bytes: &[u8], fault: KeysetFault) -> Status
+    ensures { OrStarved (fault_status from (is_wrapped_binary bytes.now true) fault) result }
 {
     match is_wrapped_binary(alloc, bytes, true) {
-        Ok(true) => Status::KeysetLocked(fault),
+        Ok(true) => Status::KeysetLocked(fault, from),
         Ok(false) => Status::Keyset(fault),
         Err(NoMemory) => Status::NoMemory,
     }
