@@ -25,24 +25,24 @@ use Rattle.wrapped_prims.specs.declared.held.Held.{Held}
 -- ---- lists
 
 -- the place behind records the first of which has the place 0
-from_first : (rs : List Record) → length rs ≡ 0 + length rs
+pub from_first : (rs : List Record) → length rs ≡ 0 + length rs
 from_first rs = omega arith
 
-drop_front : {X : Type 0} (front back : List X) → drop (length front) (front ++ back) ≡ back
+pub drop_front : {X : Type 0} (front back : List X) → drop (length front) (front ++ back) ≡ back
 drop_front [] back = refl
 drop_front (x ∷ front) back = drop_front front back
 
-length_map : {X Y : Type 0} (f : X → Y) (xs : List X) → length (map f xs) ≡ length xs
+pub length_map : {X Y : Type 0} (f : X → Y) (xs : List X) → length (map f xs) ≡ length xs
 length_map f [] = refl
 length_map f (x ∷ xs) = ap suc (length_map f xs)
 
-all_append : {X : Type 0} (P : X → Type 0) (front back : List X) → AllByRecursion P front → AllByRecursion P back → AllByRecursion P (front ++ back)
+pub all_append : {X : Type 0} (P : X → Type 0) (front back : List X) → AllByRecursion P front → AllByRecursion P back → AllByRecursion P (front ++ back)
 all_append P [] back one two = two
 all_append P (x ∷ front) back one two = (one.0, all_append P front back one.1 two)
 
 -- ---- fitness and places of records behind others
 
-unfit_append : (i : ℕ) (table : Table) (p : Primitive) (rs more : List Record) → unfit_from i table p rs ≡ None → unfit_from i table p (rs ++ more) ≡ unfit_from (i + length rs) table p more
+pub unfit_append : (i : ℕ) (table : Table) (p : Primitive) (rs more : List Record) → unfit_from i table p rs ≡ None → unfit_from i table p (rs ++ more) ≡ unfit_from (i + length rs) table p more
 unfit_append i table p [] more fit =
     let last : i ≡ i + 0 = omega arith in
     ap (λ n. unfit_from n table p more) last

@@ -32,7 +32,7 @@ few_trials table p keys held bytes before now over few =
     let behind : length (each_with bytes raw) ≡ length raw = length-map raw _ in
     omega (arith, few, first, last, all, front, behind)
 
-fit_at : (n : ℕ) (table : Table) (p : Primitive) (rs : List Record) (i : ℕ) (r : Record) → unfit_from n table p rs ≡ None → slice_get rs i ≡ Some r → fault_of_record table p r ≡ None
+pub fit_at : (n : ℕ) (table : Table) (p : Primitive) (rs : List Record) (i : ℕ) (r : Record) → unfit_from n table p rs ≡ None → slice_get rs i ≡ Some r → fault_of_record table p r ≡ None
 fit_at n table p [] i r fit at = absurd (the_clash at)
   where
     the_clash : None ≡ Some r → ⊥

@@ -89,11 +89,11 @@ kept_here table p r i at key url value prefix f served last is =
 
 -- ---- one record after another
 
-fit_here : (table : Table) (p : Primitive) (keys : Keys) (i : ℕ) (r : Record) (held : Held) (why : Option Unfit)
-    → IsKept table p keys (drop i keys.records) i held → slice_get keys.records i ≡ Some r → fault_of_record table p r ≡ why
+fit_here : (table : Table) (p : Primitive) (keys : Keys) (i : ℕ) (r : Record) (why : Option Unfit)
+    → unfit keys p table ≡ unfit_from i table p (drop i keys.records) → slice_get keys.records i ≡ Some r → fault_of_record table p r ≡ why
     → unfit keys p table ≡ or_later i why (unfit_from (i + 1) table p (drop (i + 1) keys.records))
-fit_here table p keys i r held why was at fault =
-    was.fit ∙ ap (unfit_from i table p) (drop_here keys.records i r at)
+fit_here table p keys i r why fit at fault =
+    fit ∙ ap (unfit_from i table p) (drop_here keys.records i r at)
     ∙ ap (λ o. or_later i o (unfit_from (i + 1) table p (drop (i + 1) keys.records))) fault
 
 -- the place of a record is kept where it is looked for
@@ -123,7 +123,7 @@ placed_on r rs i old new (Some prefix) enabled is placed = record {
       ∙ ap (λ raw. raw ++ places_from (i + 1) None rs) (sym placed.1);
 }
 
-placed : (table : Table) (p : Primitive) (r : Record) (rs : List Record) (i : ℕ) (old new : Held) → KeptAs table p r → IsPlaced (kept_of table p r) i old new → IsFoundBehind r rs i old new
+pub placed : (table : Table) (p : Primitive) (r : Record) (rs : List Record) (i : ℕ) (old new : Held) → KeptAs table p r → IsPlaced (kept_of table p r) i old new → IsFoundBehind r rs i old new
 placed table p r rs i old new (off e none) is = placed_off r rs i old new e (subst (λ slot. IsPlaced slot i old new) none is)
 placed table p r rs i old new (on at key e read some) is = placed_on r rs i old new (prefix_of r) e refl (subst (λ slot. IsPlaced slot i old new) some is)
 
@@ -135,7 +135,7 @@ kept_more table p keys i r old new slot was at keeping word added =
     let here : drop i keys.records ≡ r ∷ rest = drop_here keys.records i r at in
     let found : IsFoundBehind r rest i old new = placed table p r rest i old new (kept_as table p r keeping.0) (subst (λ s. IsPlaced s i old new) keeping.1 added.placed) in
     record {
-      fit = fit_here table p keys i r old None was at keeping.0;
+      fit = fit_here table p keys i r None was.fit at keeping.0;
       kept = ap (λ slots. slots ++ map (kept_of table p) rest) added.slots
           ∙ append_assoc old.slots.items (slot ∷ []) (map (kept_of table p) rest)
           ∙ ap (λ s. old.slots.items ++ (s ∷ map (kept_of table p) rest)) keeping.1
@@ -183,13 +183,14 @@ kept_last table p keys n held faultless end kept = by (drop n keys.records) (dro
     }
     by (r ∷ rest) some kept = absurd cc
 
-pub fault_here : (table : Table) (p : Primitive) (keys : Keys) (i : ℕ) (r : Record) (held : Held) (fault : HandleFault)
-    → IsKept table p keys (drop i keys.records) i held → slice_get keys.records i ≡ Some r → IsKeeping table p r i (Err fault)
+-- a fault of the first record behind those that can serve
+pub fault_here : (table : Table) (p : Primitive) (keys : Keys) (i : ℕ) (r : Record) (fault : HandleFault)
+    → unfit keys p table ≡ unfit_from i table p (drop i keys.records) → slice_get keys.records i ≡ Some r → IsKeeping table p r i (Err fault)
     → IsFaultOf (unfit keys p table) fault
-fault_here table p keys i r held (faults.NoManager j) was at keeping = fit_here table p keys i r held (Some (fitness.NoManager)) was at keeping.1 ∙ ap (λ k. Some (k, fitness.NoManager)) (sym keeping.0)
-fault_here table p keys i r held (faults.BadKey j rule) was at keeping = fit_here table p keys i r held (Some (fitness.BadKey rule)) was at keeping.1 ∙ ap (λ k. Some (k, fitness.BadKey rule)) (sym keeping.0)
-fault_here table p keys i r held (faults.NotRaw j) was at keeping = fit_here table p keys i r held (Some (fitness.NotRaw)) was at keeping.1 ∙ ap (λ k. Some (k, fitness.NotRaw)) (sym keeping.0)
-fault_here table p keys i r held faults.NoMemory was at keeping = tt
+fault_here table p keys i r (faults.NoManager j) fit at keeping = fit_here table p keys i r (Some (fitness.NoManager)) fit at keeping.1 ∙ ap (λ k. Some (k, fitness.NoManager)) (sym keeping.0)
+fault_here table p keys i r (faults.BadKey j rule) fit at keeping = fit_here table p keys i r (Some (fitness.BadKey rule)) fit at keeping.1 ∙ ap (λ k. Some (k, fitness.BadKey rule)) (sym keeping.0)
+fault_here table p keys i r (faults.NotRaw j) fit at keeping = fit_here table p keys i r (Some (fitness.NotRaw)) fit at keeping.1 ∙ ap (λ k. Some (k, fitness.NotRaw)) (sym keeping.0)
+fault_here table p keys i r faults.NoMemory fit at keeping = tt
 
 pub fault_refused : {A : Type 0} (result : Result A HandleFault) (fault : HandleFault) (told : Option (ℕ × Unfit)) → IsErrAnd result (λ e. e ≡ fault) → IsFaultOf told fault → IfErr result (IsFaultOf told)
 fault_refused (Ok done) fault told same is = absurd same

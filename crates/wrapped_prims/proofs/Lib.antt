@@ -2,6 +2,8 @@ pub mod KeepLemmas
 pub mod PlaceLemmas
 pub mod IndexLemmas
 pub mod FollowLemmas
+pub mod ListLemmas
+pub mod ChangeLemmas
 pub mod OpenLemmas
 pub mod OpenedSizes
 pub mod PrefixLemmas

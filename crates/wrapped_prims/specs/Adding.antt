@@ -1,5 +1,6 @@
--- What a handle holds while its keyset's records are added, one after another.
-use Rattle.std.specs.Prelude.{◌≡◌, ℕ, List, [], ◌∷◌, ◌++◌, map, filter, not, is_some, Option, Some, None, slice_get}
+-- What a handle holds while its keyset's records are added, one after another, or while the places of what it
+-- keeps are listed anew.
+use Rattle.std.specs.Prelude.{◌≡◌, ℕ, List, [], ◌∷◌, ◌++◌, drop, map, filter, not, is_some, Option, Some, None, slice_get}
 use Rattle.std.specs.List.{AllByRecursion, IsDistinct}
 use Rattle.std.specs.Map.{keys_of, lookup, set_value}
 use Rattle.std.specs.Str.{bytes_eq}
@@ -50,6 +51,11 @@ pub record IsAdded (slot : Option Kept) (place : ℕ) (old new : Held) : Type 0 
   pub placed : IsPlaced slot place old new
   pub primary : new.primary ≡ old.primary
 
+-- the place of what is kept at a place is kept where it is looked for
+abbrev pub IsListedAt : ℕ → (old new : Held) → Type 0
+IsListedAt place old new =
+    (slot : Option Kept) → slice_get old.slots.items place ≡ Some slot → IsPlaced slot place old new
+
 -- an index, and behind it the places of records the first of which has this place
 abbrev pub indexed_from : ℕ → Index → List Record → Index
 indexed_from i index rest =
@@ -69,3 +75,28 @@ pub record IsKept (table : Table) (primitive : Primitive) (keys : Keys) (rest : 
   pub primary : slice_get keys.records held.primary ≡ primary_of keys
   pub served : AreServed table primitive held.slots.items
   pub words : AllByRecursion HasWordId rest → AllByRecursion HasWordId keys.records
+
+-- these are what is kept of the records of a keyset that can serve
+abbrev pub AreKeptOf : List (Option Kept) → Table → Primitive → Keys → Type 0
+AreKeptOf slots table primitive keys =
+    (unfit keys primitive table ≡ None) × (slots ≡ map (kept_of table primitive) keys.records)
+
+-- of any keyset of which these are kept, all places are held
+pub record IsOfSlots (slots : List (Option Kept)) (primary : ℕ) (held : Held) : Type 0 where
+  pub slots' : held.slots.items ≡ slots
+  pub primary' : held.primary ≡ primary
+  pub index : (table : Table) (primitive : Primitive) (keys : Keys)
+      → AreKeptOf slots table primitive keys → held.index.entries ≡ prefix_index keys.records
+  pub raw : (table : Table) (primitive : Primitive) (keys : Keys)
+      → AreKeptOf slots table primitive keys → held.raw.items ≡ places_of None keys.records
+
+-- the places below this one are held
+pub record IsListing (slots : List (Option Kept)) (primary i : ℕ) (held : Held) : Type 0 where
+  pub slots' : held.slots.items ≡ slots
+  pub primary' : held.primary ≡ primary
+  pub index : (table : Table) (primitive : Primitive) (keys : Keys)
+      → AreKeptOf slots table primitive keys
+      → indexed_from i held.index.entries (drop i keys.records) ≡ prefix_index keys.records
+  pub raw : (table : Table) (primitive : Primitive) (keys : Keys)
+      → AreKeptOf slots table primitive keys
+      → held.raw.items ++ places_from i None (drop i keys.records) ≡ places_of None keys.records

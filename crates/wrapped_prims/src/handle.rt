@@ -89,8 +89,8 @@ fn has_no_place(primitive: Primitive, from: &Record) -> bool
     }
 }
 
-// What is kept of the record at place `i`.
-fn keep(
+/// What is kept of the record at place `i`.
+pub(crate) fn keep(
     managers: &Managers,
     alloc: Global,
     primitive: Primitive,

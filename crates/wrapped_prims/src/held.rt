@@ -1,10 +1,10 @@
 //! What a handle keeps of a keyset.
 
-ghost use Rattle.std.specs.Prelude.{◌≡◌, ◌<◌, ◌≤◌, ◌^◌, [], ◌∷◌, None, OnOk, length, take, drop};
+ghost use Rattle.std.specs.Prelude.{◌≡◌, ◌<◌, ◌≤◌, ◌^◌, [], ◌∷◌, None, IfOk, OnOk, length, take, drop};
 ghost use Rattle.std.specs.HashMap.{IsUnique};
 ghost use Rattle.std.specs.Int.{to_be_bytes, w32};
 ghost use Rattle.std.specs.Str.{bytes_eq};
-ghost use Rattle.wrapped_prims.specs.Adding.{IsAdded, IsOfNone, noted};
+ghost use Rattle.wrapped_prims.specs.Adding.{IsAdded, IsListedAt, IsOfNone, IsOfSlots, IsPlacedBy, noted};
 ghost use Rattle.wrapped_prims.specs.Candidates.{prefix_bytes, prefix_of};
 ghost use Rattle.wrapped_prims.specs.Held.{places_at};
 ghost use Rattle.wrapped_prims.specs.Making.{HasWordId};
@@ -61,12 +61,56 @@ impl Held {
         ensures { OnOk result (IsAdded slot place self.old self.new) }
     {
         if let Some(kept) = &slot {
-            match kept.prefix {
-                Some(prefix) => note(alloc, &mut self.index, prefix, place)?,
-                None => self.raw.push(place)?,
-            }
+            self.list(alloc, place, kept.prefix)?;
         }
         self.slots.push(slot)?;
+        Ok(())
+    }
+
+    /// Holds these slots, and lists the places of their keys. No key is moved or copied.
+    pub(crate) fn of_slots(
+        alloc: Global,
+        slots: Vec<Option<Kept>>,
+        primary: usize,
+    ) -> Result<Held, NoMemory>
+        ensures { IfOk result (IsOfSlots slots.items primary) }
+    {
+        let mut held = Held {
+            slots,
+            index: IndexMap::new(alloc),
+            raw: Vec::new(alloc),
+            primary,
+        };
+        for i in 0..held.slots.len() {
+            held.list_at(alloc, i)?;
+        }
+        Ok(held)
+    }
+
+    // Lists the place, if a key is kept there.
+    fn list_at(&mut self, alloc: Global, place: usize) -> Result<(), NoMemory>
+        requires { place < length self.old.slots.items }
+        ensures placed { OnOk result (IsListedAt place self.old self.new) }
+        ensures slots { OnOk result (self.new.slots.items ≡ self.old.slots.items) }
+        ensures primary { OnOk result (self.new.primary ≡ self.old.primary) }
+    {
+        if let Some(kept) = &self.slots[place] {
+            let prefix = kept.prefix;
+            self.list(alloc, place, prefix)?;
+        }
+        Ok(())
+    }
+
+    // Lists the place of a kept key with this prefix, or with none.
+    fn list(&mut self, alloc: Global, place: usize, prefix: Option<[u8; 5]>) -> Result<(), NoMemory>
+        ensures placed { OnOk result (IsPlacedBy prefix place self.old self.new) }
+        ensures slots { OnOk result (self.new.slots.items ≡ self.old.slots.items) }
+        ensures primary { OnOk result (self.new.primary ≡ self.old.primary) }
+    {
+        match prefix {
+            Some(prefix) => note(alloc, &mut self.index, prefix, place)?,
+            None => self.raw.push(place)?,
+        }
         Ok(())
     }
 

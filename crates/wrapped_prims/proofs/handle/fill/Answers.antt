@@ -9,7 +9,7 @@ loop-i-preserved g c =
 pub returns-in_err-slot-clause-fault : goal.returns-in_err-slot-clause-fault
 returns-in_err-slot-clause-fault g c =
     fault_refused _ _ _ c.from_residual.ensures.1
-    (fault_here _ c.args.primitive c.args.keyset.now c.loop-i.i c.record_at.result.now _ c.in_err-slot.field-0.0 c.loop-i.invariant c.record_at.ensures.record_there c.in_err-slot.ensures.keeping)
+    (fault_here _ c.args.primitive c.args.keyset.now c.loop-i.i c.record_at.result.now c.in_err-slot.field-0.0 c.loop-i.invariant.fit c.record_at.ensures.record_there c.in_err-slot.ensures.keeping)
 
 pub returns-clause-over : goal.returns-clause-over
 returns-clause-over g c =
