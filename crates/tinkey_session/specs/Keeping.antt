@@ -21,8 +21,10 @@ use Rattle.tinkey_session.specs.declared.reply.Refusal.{Refusal}
 use Rattle.tinkey_session.specs.declared.reply.Refusal.TheVariants as refusals
 use Rattle.tinkey_session.specs.declared.reply.Reply.{Reply}
 use Rattle.tinkey_session.specs.declared.reply.Reply.TheVariants as replies
+use Rattle.tinkey_session.specs.declared.session.Change.{Change}
+use Rattle.tinkey_session.specs.declared.session.Change.TheVariants.{Grows, At, Loses}
 use Rattle.tinkey_session.specs.declared.session.LineFault.{LineFault}
-use Rattle.wrapped_prims.specs.Following.{BeginsWith}
+use Rattle.wrapped_prims.specs.Following.{BeginsWith, ChangesAt, LosesAt}
 use Rattle.wrapped_prims.specs.Making.{IsOver}
 use Rattle.wrapped_prims.specs.declared.handle.HandleFault.{HandleFault}
 use Rattle.wrapped_prims.specs.declared.handle.HandleFault.TheVariants as faults
@@ -69,11 +71,16 @@ pub record IsKept (table own : Table) (primitive : Primitive) (keys : Keys) (hel
   pub same : own ≡ table
   pub over : IsOver own primitive keys held
 
--- Each record is as it was and in its place, whatever stands behind them and whichever is primary,
--- after this edit of the keyset, if it is accepted.
-abbrev pub KeepsAll : Keys → Edit → Type 0
-KeepsAll keys edit = (edited : Keys) → LeavesOthers keys edit edited
-    → BeginsWith keys.records edited.records
+-- some records came of others by this change, whichever record is primary
+abbrev pub IsChanged : Change → (before records : List Record) → Type 0
+IsChanged Grows before records = BeginsWith before records
+IsChanged (At place) before records = ChangesAt place before records
+IsChanged (Loses place) before records = LosesAt place before records
+
+-- this is what the edit does to the keyset's records, if it is accepted
+abbrev pub IsChange : Keys → Edit → Change → Type 0
+IsChange keys edit change = (edited : Keys) → LeavesOthers keys edit edited
+    → IsChanged change keys.records edited.records
 
 -- the edit that is asked for by the name of a template or an id was found, or is refused
 abbrev pub FindsEdit : EditOf (List ℕ) → Result (Command Template) Refusal → Type 0

@@ -1,6 +1,6 @@
 //! A keyset on which lines work, one after another.
 
-ghost use Rattle.std.specs.Prelude.{◌≡◌, ◌≢◌, ◌↔◌, ◌≤◌, ◌^◌, length, Some, None, IfSome, IfErr, IsSomeAnd, IsTrue, OnOk, OnErr, MatchResult, Ok, Err};
+ghost use Rattle.std.specs.Prelude.{◌≡◌, ◌≢◌, ◌↔◌, ◌≤◌, ◌^◌, length, Some, None, IfSome, IfOk, IfErr, IsSomeAnd, IsTrue, OnOk, OnErr, MatchResult, Ok, Err};
 ghost use Rattle.std.specs.List.{AllByRecursion};
 ghost use Rattle.key_msgs.specs.Templates.{seen};
 ghost use Rattle.key_msgs.specs.declared.primitive.Primitive.{Primitive};
@@ -9,11 +9,10 @@ ghost use Rattle.keyset_model.specs.Keyset.{IsShort, Keys};
 ghost use Rattle.tinkey_cmds.specs.Edits.{Enable, seen_by, seen_edit};
 ghost use Rattle.tinkey_cmds.specs.Laws.{LeavesOthers};
 ghost use Rattle.tinkey_session.specs.Answered.{Serves};
-ghost use Rattle.tinkey_session.specs.Keeping.{Asks, FindsEdit, IsKept, IsUnedited, KeepsAll, needs, short-prop};
+ghost use Rattle.tinkey_session.specs.Keeping.{Asks, FindsEdit, IsChange, IsChanged, IsKept, IsUnedited, needs, short-prop};
 ghost use Rattle.tinkey_session.specs.Reading.{IsWithin, seen_line};
 ghost use Rattle.tinkey_session.specs.Serving.{edit_line, edited_reply, serve as served, template_of};
 ghost use Rattle.wrapped_prims.specs.Fitness.{unfit};
-ghost use Rattle.wrapped_prims.specs.Following.{BeginsWith};
 ghost use Rattle.wrapped_prims.specs.Making.{IsFaultOf, IsOver};
 
 use crate::answering::{answer, needs};
@@ -36,9 +35,8 @@ pub enum LineFault {
     NoMemory,
 }
 
-/// A keyset, and the handle of its keys that a line needed last. The handle follows an edit that
-/// leaves each record as it is, such as one that adds a key; any other edit drops it, and any other
-/// line keeps it.
+/// A keyset, and the handle of its keys that a line needed last. The handle follows each edit, for
+/// which it prepares at most one key; any other line keeps it.
 ///
 /// A record's URL and value together have at most 2^31 - 256 bytes.
 #[derive(Drop)]
@@ -229,10 +227,20 @@ impl<'m> Session<'m> {
     }
 }
 
+/// What an accepted edit does to the records of a keyset.
+#[derive(Clone, Copy)]
+enum Change {
+    /// Each record stays as it is, in its place; others may come after them.
+    Grows,
+    /// Only the record of this place changes.
+    At(usize),
+    /// The record of this place goes.
+    Loses(usize),
+}
+
 impl<'m> Session<'m> {
-    /// Puts the edited keyset in place. If the edit left all records as they were, the handle goes
-    /// on with them and with those that were added. It is dropped if it can't, also for want of
-    /// memory, and after any other edit.
+    /// Puts the edited keyset in place, and the handle goes on with it. It is dropped if it can't:
+    /// if an enabled record can't serve, or for want of memory.
     fn replace(&mut self, alloc: Global, command: &Command<Template>, edited: Keyset)
         requires kept { IfSome self.old.kept (λ h. IsKept
             (⟦<Managers as KeyTable>⟧.table self.old.managers.now)
@@ -246,52 +254,76 @@ impl<'m> Session<'m> {
         ensures table { ⟦<Managers as KeyTable>⟧.table self.new.managers.now
             ≡ ⟦<Managers as KeyTable>⟧.table self.old.managers.now }
     {
-        let follows = keeps_all(command, &self.keyset);
+        let change = change_of(command, &self.keyset);
         let kept = self.kept.take();
         self.keyset = edited;
-        if follows {
-            if let Some(handle) = kept {
-                self.kept = followed(alloc, handle, &self.keyset);
+        if let Some(handle) = kept {
+            if let Ok(next) = followed(alloc, handle, change, &self.keyset) {
+                self.kept = Some(next);
             }
         }
     }
 }
 
-/// The handle of a keyset that begins with the records of the handle's own; `None` if there is
-/// none, or memory can't be allocated.
-fn followed<'m>(alloc: Global, handle: Handle<'m>, keyset: &Keyset) -> Option<Handle<'m>>
-    requires grows { (before : Keys) × BeginsWith before.records keyset.now.records
+/// The handle of a keyset that came of the handle's own by this change.
+fn followed<'m>(
+    alloc: Global,
+    handle: Handle<'m>,
+    change: Change,
+    keyset: &Keyset,
+) -> Result<Handle<'m>, HandleFault>
+    requires changed { (before : Keys) × IsChanged change before.records keyset.now.records
         × IsOver (⟦<Managers as KeyTable>⟧.table handle.managers.now) handle.primitive before
         handle.held }
-    ensures over { IfSome result (λ h. IsOver (⟦<Managers as KeyTable>⟧.table h.managers.now)
-        h.primitive keyset.now h.held) }
-    ensures table { IfSome result (λ h. ⟦<Managers as KeyTable>⟧.table h.managers.now
+    ensures fault { IfErr result (IsFaultOf (unfit keyset.now handle.entry.primitive
+        (⟦<Managers as KeyTable>⟧.table handle.entry.managers.now))) }
+    ensures over { IfOk result (λ h. IsOver (⟦<Managers as KeyTable>⟧.table h.managers.now)
+        handle.entry.primitive keyset.now h.held) }
+    ensures table { IfOk result (λ h. ⟦<Managers as KeyTable>⟧.table h.managers.now
         ≡ ⟦<Managers as KeyTable>⟧.table handle.entry.managers.now) }
+    ensures primitive { IfOk result (λ h. h.primitive ≡ handle.entry.primitive) }
 {
-    match handle.grown(alloc, keyset) {
-        Ok(grown) => Some(grown),
-        Err(_) => None,
+    match change {
+        Change::Grows => handle.grown(alloc, keyset),
+        Change::At(place) => handle.changed(alloc, keyset, place),
+        Change::Loses(place) => {
+            let left = handle.without(alloc, keyset, place)?;
+            Ok(left)
+        }
     }
 }
 
-/// Whether the edit, if it is accepted, leaves each record as it is and in its place.
-fn keeps_all(command: &Command<Template>, keyset: &Keyset) -> bool
-    ensures { IsTrue result → KeepsAll keyset.now (seen_edit command.now) }
+/// What the edit does to the keyset's records, if it is accepted.
+fn change_of(command: &Command<Template>, keyset: &Keyset) -> Change
+    ensures { IsChange keyset.now (seen_edit command.now) result }
 {
     match command {
-        Command::Add(_) | Command::Rotate(_) | Command::Promote(_) => true,
-        Command::Enable(id) => is_enabled(keyset, *id),
-        Command::Disable(_) | Command::Destroy(_) | Command::Delete(_) => false,
+        Command::Add(_) | Command::Rotate(_) | Command::Promote(_) => Change::Grows,
+        Command::Enable(id) => enabled_at(keyset, *id),
+        Command::Disable(id) | Command::Destroy(id) => match keyset.find(*id) {
+            Some(place) => Change::At(place),
+            None => Change::Grows,
+        },
+        Command::Delete(id) => match keyset.find(*id) {
+            Some(place) => Change::Loses(place),
+            None => Change::Grows,
+        },
     }
 }
 
-/// Whether the first record with this id is ENABLED.
-fn is_enabled(keyset: &Keyset, id: u32) -> bool
-    ensures { IsTrue result → KeepsAll keyset.now (Enable id) }
+/// What enabling the first record with this id does: nothing, if it is ENABLED.
+fn enabled_at(keyset: &Keyset, id: u32) -> Change
+    ensures { IsChange keyset.now (Enable id) result }
 {
     match keyset.find(id) {
-        Some(place) => keyset.record_at(place).status == ENABLED,
-        None => false,
+        Some(place) => {
+            if keyset.record_at(place).status == ENABLED {
+                Change::Grows
+            } else {
+                Change::At(place)
+            }
+        }
+        None => Change::Grows,
     }
 }
 
