@@ -59,6 +59,7 @@ pub(crate) fn put_into_file<S: Source, E: Entropy, D: PieceStore>(
 }
 
 /// Begins a draft of this name, which must be free. One that was there before is given up.
+#[inline(never)]
 fn begin_file<D: PieceStore>(alloc: Global, name: &str, store: &mut D) -> Result<(), Status>
     ensures passes { (w : World) → Passes (λ next. begins_file (Some name.now) (next tt))
         (record w { store = D.state store.old }) result (record w { store = D.state store.new }) }
@@ -149,6 +150,7 @@ fn pass_into_lent<'s, S: Source, E: Entropy, D: PieceStore, L: Lent>(
 }
 
 /// Makes the draft of a pass the file if the pass came to its end. Otherwise it is given up.
+#[inline(never)]
 fn close_file<D: PieceStore>(store: &mut D, passed: Result<(), Status>) -> Result<(), Status>
     requires begun { IsSome (D.draft store.old) }
     ensures { Closes (D.draft store.old) (D.state store.old) passed result (D.state store.new) }
