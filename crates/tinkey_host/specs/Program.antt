@@ -58,6 +58,12 @@ pub data HasEnded (terminals : Terminals) (told : Option (List (List ℕ))) (old
   as_obeyed : HasObeyed terminals told old new before after code → HasEnded terminals told old new before after code
   late_fault : (sink between : SinkState) → HasObeyed terminals told old (world new.source sink new.store new.entropy) before between 0 → RoseOnce sink.faults new.sink.faults → Took sink new.sink [] → code ≡ code_of statuses.WriteFault → Reports statuses.WriteFault between after → HasEnded terminals told old new before after code
 
+-- How the program ended, over the system's objects, whatever these tell: as a command line is obeyed over them; or
+-- memory for reading standard input ahead was refused before that.
+pub data ProgramEnds (code : ℕ) : Type 0 where
+  obeyed : (terminals : Terminals) (told : Option (List (List ℕ))) (old new : World) (before after : SinkState) → HasEnded terminals told old new before after code → ProgramEnds code
+  starved : code ≡ code_of statuses.NoMemory → ProgramEnds code
+
 -- A stated answer in bytes: its status; what it leaves of the input, if it says that; its output behind what was
 -- written before; its files; and the random bytes that it leaves.
 pub record IsAnsweredInBytes (a : Answer) (written : List ℕ) (s : Status) (left after : Option (List ℕ)) (kept : Option Files) (undrawn : Option (List ℕ)) : Type 0 where

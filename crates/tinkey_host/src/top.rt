@@ -4,7 +4,7 @@ ghost use Rattle.std.specs.Prelude.{◌≡◌, true, IfSome, map, string_bytes};
 ghost use Rattle.std.specs.Process.{exit_status};
 ghost use Rattle.real_objects.specs.Streams.{told_sink, stream_written, has_written};
 ghost use Rattle.tinkey_plans.specs.Ends.{world};
-ghost use Rattle.tinkey_host.specs.Program.{HasRun, HasMet, HasObeyed, HasEnded};
+ghost use Rattle.tinkey_host.specs.Program.{HasRun, HasMet, HasObeyed, HasEnded, ProgramEnds};
 ghost use Rattle.tinkey_host.specs.Terminals.{is_kept_off, waits};
 
 use crate::cause::tell_cause;
@@ -36,11 +36,13 @@ const KEPT_OFF: u8 = 4;
 /// path of a file that couldn't be removed.
 ///
 /// Before a file is opened, each of the three streams is asked whether it is open, and whether it
-/// is a terminal. No contract can say what the system then gives and takes: what holds for the exit
-/// code is what `obey_to_the_end` says for any words and objects, these included. If memory for
-/// reading standard input ahead can't be allocated, that is reported as for a run, before the words
-/// are read. If standard error is a terminal, it shows how much of a long input has been read.
-pub fn program(rt: &HostRuntime) -> ExitCode {
+/// is a terminal. No contract can say what the system then gives and takes: the exit code is one
+/// that `obey_to_the_end` gives for these objects. If memory for reading standard input ahead can't
+/// be allocated, that is reported as for a run, before the words are read. If standard error is a
+/// terminal, it shows how much of a long input has been read.
+pub fn program(rt: &HostRuntime) -> ExitCode
+    ensures { ProgramEnds (exit_status result) }
+{
     let source = StdSource::probed(rt.alloc(), rt.stdin());
     let mut sink = StdSink::probed(StandardOutput::new(rt));
     let mut diag = StdSink::probed(rt.stderr());
