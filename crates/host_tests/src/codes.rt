@@ -1,6 +1,6 @@
 //! The exit codes, and what goes to the output and to the diagnostic line beside it.
 
-ghost use Rattle.std.specs.Prelude.{◌-◌, ◌^◌, None};
+ghost use Rattle.std.specs.Prelude.{◌-◌, ◌^◌, [], None, Some, if◌then◌else◌};
 
 use crate::listed::{Listed, in_digits, in_text};
 use real_objects::{DirStore, FileEntropy, RandomDevice};
@@ -18,6 +18,7 @@ use tinkey_host::{Terminals, obey, obey_listed, program};
 #[derive(Drop)]
 struct NoRoom {
     calls: u32,
+    begun: bool,
 }
 
 impl Store for NoRoom {
@@ -48,22 +49,27 @@ impl Store for NoRoom {
 }
 
 impl PieceStore for NoRoom {
-    ghost draft = { λ _. None };
+    // of a draft, which it never begins, it would know no bytes
+    ghost draft = { λ s. if s.begun then Some (record { name = []; bytes = None }) else None };
 
     fn begin(&mut self, _alloc: Global, _name: &str) -> Result<Begun, StoreError> {
         self.calls = self.calls.wrapping_add(1);
+        self.begun = false;
         Err(StoreError::NoMemory)
     }
 
-    fn append(&mut self, _piece: &[u8]) -> Result<usize, Failed> {
-        unreachable!()
+    fn append(&mut self, piece: &[u8]) -> Result<usize, Failed> {
+        Ok(piece.len())
     }
 
     fn finish(&mut self) -> Result<Created, StoreError> {
-        unreachable!()
+        self.begun = false;
+        Err(StoreError::NoMemory)
     }
 
-    fn give_up(&mut self) {}
+    fn give_up(&mut self) {
+        self.begun = false;
+    }
 }
 
 /// A keyset after tink.proto: a key for AES-GCM of 16 zero bytes, TINK, whose id is 0x01020304.
@@ -206,7 +212,11 @@ fn obey_over<D: PieceStore>(alloc: Global, row: &str, store: &mut D) -> Result<(
 /// Obeys a row. The file `k` is the keyset for HMAC.
 fn obey_row(alloc: Global, row: &str) -> Result<(), Fail> {
     if cell(row, 2)? == "no memory" {
-        return obey_over(alloc, row, &mut NoRoom { calls: 0 });
+        let mut store = NoRoom {
+            calls: 0,
+            begun: false,
+        };
+        return obey_over(alloc, row, &mut store);
     }
     let mut store = MemStore::new(alloc, Vec::new(alloc));
     store.put("k", &bytes_of(alloc, HMAC)?)?;
