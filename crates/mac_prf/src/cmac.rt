@@ -2,10 +2,12 @@
 
 ghost use Rattle.std.specs.Prelude.{◌≡◌, ◌+◌, ◌-◌, ◌%◌, ◌<◌, ◌≤◌, ℕ, List, [], ◌∷◌, ◌++◌, length, replicate, take};
 ghost use Rattle.aes_core.specs.Bytes.{xor_bytes};
+ghost use Rattle.aes_core.specs.Counter.{counter_plus, ctr};
+ghost use Rattle.aes_core.specs.declared.counter.CtrKind.TheVariants.{All128};
 ghost use Rattle.mac_prf.specs.Cmac.{cmac, doubled_block, masked};
 
 use crate::blocks::{doubled, padded, xor};
-use aes_core::Aes;
+use aes_core::{Aes, CtrKind};
 
 /// CMAC under one key, of a message that comes in pieces: `under`, an `update` for each piece, and
 /// `finish`.
@@ -55,6 +57,40 @@ impl<'k> Cmac<'k> {
             self.chain(blocks);
             self.hold(last);
         }
+    }
+
+    /// Encrypts or decrypts `body` in place by counter mode under `key`, from `start`, all of whose
+    /// bits count (SP 800-38A, 6.5), and adds the result to the message.
+    ///
+    /// If the keys have the same size, and the message so far is whole blocks and not empty, whole
+    /// blocks are enciphered for both side by side.
+    pub fn update_encrypted(&mut self, key: &Aes, start: &[u8; 16], body: &mut [u8])
+        ensures text { body.new ≡ ctr key.now start.now All128 body.old }
+        ensures message { (under m : List ℕ) →
+            Holds self.old under m → Holds self.new under (m ++ body.new) }
+    {
+        if self.size != 16 || self.aes.key_size() != key.key_size() {
+            key.ctr_xor(start, CtrKind::All128, body);
+            self.update(body);
+        } else {
+            let whole = body.len() / 16;
+            let (blocks, rest) = body.split_at_mut(16 * whole);
+            self.chain_encrypted(key, start, blocks);
+            key.ctr_xor(&counter_after(start, whole), CtrKind::All128, rest);
+            self.update(rest);
+        }
+    }
+
+    // Encrypts whole blocks and adds them to the message, when a whole block is held.
+    fn chain_encrypted(&mut self, key: &Aes, start: &[u8; 16], blocks: &mut [u8])
+        requires full { self.old.size ≡ 16 }
+        requires same_size { length self.old.aes.now ≡ length key.now }
+        requires whole { length blocks.old % 16 ≡ 0 }
+        ensures text { blocks.new ≡ ctr key.now start.now All128 blocks.old }
+        ensures message { (under m : List ℕ) →
+            Holds self.old under m → Holds self.new under (m ++ blocks.new) }
+    {
+        key.ctr_chain(self.aes, start, &mut self.chained, &mut self.held, blocks);
     }
 
     // Holds these bytes too.
@@ -110,4 +146,13 @@ impl<'k> Cmac<'k> {
             xor(&doubled(&subkey1), &padded(&self.held[..self.size]))
         }
     }
+}
+
+// The counter that is `steps` after `start`, all of whose bits count.
+fn counter_after(start: &[u8; 16], steps: usize) -> [u8; 16]
+    ensures { result ≡ counter_plus All128 start.now steps }
+{
+    u128::from_be_bytes(*start)
+        .wrapping_add(steps as u128)
+        .to_be_bytes()
 }
