@@ -115,8 +115,35 @@ impl Scheme<'_> {
         let (room, body) = sealed.split_at_mut(iv.len());
         room.copy_from_slice(iv);
         let start = self.start(iv);
-        self.crypt(&start, body);
-        self.write_tag(&start, iv, ad, body, tag);
+        self.encrypt_and_tag(&start, iv, ad, body, tag);
+    }
+
+    // Encrypts from the block that is handed in, and writes the tag of what was encrypted.
+    fn encrypt_and_tag(
+        &self,
+        start: &[u8; 16],
+        iv: &[u8],
+        ad: &[u8],
+        body: &mut [u8],
+        tag: &mut [u8],
+    )
+        requires sound { IsSound self.now }
+        requires start { start.now ≡ start_under self.now iv.now }
+        requires ad_bound { length ad.now ≤ 2 ^ 30 }
+        requires tag_size { length tag.old ≡ tag_size_of self.now }
+        ensures text { body.new ≡ crypt_under self.now iv.now body.old }
+        ensures tag { (hash : Hash) (mac : List ℕ) → IsUnder self.now hash mac
+            → tag.new ≡ tag_under self.now hash mac iv.now ad.now body.new }
+    {
+        match self {
+            Scheme::Eax { key } => {
+                tag.copy_from_slice(&eax::encrypt_and_tag(key, start, ad, body));
+            }
+            Scheme::CtrHmac { .. } => {
+                self.crypt(start, body);
+                self.write_tag(start, iv, ad, body, tag);
+            }
+        }
     }
 
     // How many bytes a tag has.
