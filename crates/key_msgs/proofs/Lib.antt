@@ -2,5 +2,6 @@ pub mod Finding
 pub mod Made
 pub mod ReadingBack
 pub mod ReadingLemmas
+pub mod TableLemmas
 pub mod Validity
 pub mod WritingLemmas

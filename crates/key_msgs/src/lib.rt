@@ -21,5 +21,7 @@ pub use layout::Layout;
 pub use primitive::Primitive;
 pub use reading::read_key;
 pub use rule::Rule;
-pub use template::{Recipe, Template, TemplateFault, make_key, template_at, template_named};
+pub use template::{
+    Recipe, TEMPLATE_COUNT, Template, TemplateFault, make_key, template_at, template_named,
+};
 pub use writing::write_key;

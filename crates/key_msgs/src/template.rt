@@ -1,6 +1,6 @@
 //! The templates from which new keys are made.
 
-ghost use Rattle.std.specs.Prelude.{◌≡◌, ◌≢◌, ◌<◌, ◌≤◌, ℕ, [], length, Some, option_map, slice_get, IfOk, Contains};
+ghost use Rattle.std.specs.Prelude.{◌≡◌, ◌≢◌, ◌<◌, ◌≤◌, ℕ, [], length, map, Some, option_map, slice_get, IfOk, Contains};
 ghost use Rattle.key_msgs.specs.KeyTypes.{primitive_of_type, url_of_type};
 ghost use Rattle.key_msgs.specs.Keys.{type_of};
 ghost use Rattle.key_msgs.specs.declared.template.Recipe.TheVariants.{CtrHmac};
@@ -50,7 +50,97 @@ struct TemplateRow {
     recipe: Recipe,
 }
 
-/// A template: one of the table's 36 rows. Contracts see its index.
+/// A row of the table.
+macro_rules! row {
+    ($name:literal, $prefix:expr, $recipe:expr) => {
+        TemplateRow {
+            name: $name,
+            prefix: $prefix,
+            recipe: $recipe,
+        }
+    };
+}
+
+/// The templates, in the order in which they are listed.
+const TEMPLATES: [TemplateRow; 36] = [
+    row!("AES128_GCM", TINK, Recipe::Gcm(16)),
+    row!("AES128_GCM_RAW", RAW, Recipe::Gcm(16)),
+    row!("AES256_GCM", TINK, Recipe::Gcm(32)),
+    row!("AES256_GCM_RAW", RAW, Recipe::Gcm(32)),
+    row!("AES128_EAX", TINK, Recipe::Eax(16)),
+    row!("AES128_EAX_RAW", RAW, Recipe::Eax(16)),
+    row!("AES256_EAX", TINK, Recipe::Eax(32)),
+    row!("AES256_EAX_RAW", RAW, Recipe::Eax(32)),
+    row!("AES128_CTR_HMAC_SHA256", TINK, Recipe::CtrHmac(16, 16)),
+    row!("AES128_CTR_HMAC_SHA256_RAW", RAW, Recipe::CtrHmac(16, 16)),
+    row!("AES256_CTR_HMAC_SHA256", TINK, Recipe::CtrHmac(32, 32)),
+    row!("AES256_CTR_HMAC_SHA256_RAW", RAW, Recipe::CtrHmac(32, 32)),
+    row!("AES256_SIV", TINK, Recipe::Siv),
+    row!("AES256_SIV_RAW", RAW, Recipe::Siv),
+    row!(
+        "HMAC_SHA256_128BITTAG",
+        TINK,
+        Recipe::Hmac(32, Hash::Sha256, 16)
+    ),
+    row!(
+        "HMAC_SHA256_256BITTAG",
+        TINK,
+        Recipe::Hmac(32, Hash::Sha256, 32)
+    ),
+    row!(
+        "HMAC_SHA512_128BITTAG",
+        TINK,
+        Recipe::Hmac(64, Hash::Sha512, 16)
+    ),
+    row!(
+        "HMAC_SHA512_256BITTAG",
+        TINK,
+        Recipe::Hmac(64, Hash::Sha512, 32)
+    ),
+    row!(
+        "HMAC_SHA512_512BITTAG",
+        TINK,
+        Recipe::Hmac(64, Hash::Sha512, 64)
+    ),
+    row!("AES256_CMAC", TINK, Recipe::Cmac),
+    row!("HKDF_SHA256", RAW, Recipe::HkdfPrf),
+    row!("HMAC_SHA256_PRF", RAW, Recipe::HmacPrf(32, Hash::Sha256)),
+    row!("HMAC_SHA512_PRF", RAW, Recipe::HmacPrf(64, Hash::Sha512)),
+    row!("AES_CMAC_PRF", RAW, Recipe::CmacPrf),
+    row!("AES128_GCM_HKDF_4KB", RAW, Recipe::GcmStream(16, 4096)),
+    row!("AES128_GCM_HKDF_1MB", RAW, Recipe::GcmStream(16, 1_048_576)),
+    row!("AES256_GCM_HKDF_4KB", RAW, Recipe::GcmStream(32, 4096)),
+    row!("AES256_GCM_HKDF_1MB", RAW, Recipe::GcmStream(32, 1_048_576)),
+    row!(
+        "AES128_CTR_HMAC_SHA256_4KB",
+        RAW,
+        Recipe::CtrStream(16, 4096)
+    ),
+    row!(
+        "AES128_CTR_HMAC_SHA256_1MB",
+        RAW,
+        Recipe::CtrStream(16, 1_048_576)
+    ),
+    row!(
+        "AES256_CTR_HMAC_SHA256_4KB",
+        RAW,
+        Recipe::CtrStream(32, 4096)
+    ),
+    row!(
+        "AES256_CTR_HMAC_SHA256_1MB",
+        RAW,
+        Recipe::CtrStream(32, 1_048_576)
+    ),
+    row!("AES128_GCM_SIV", TINK, Recipe::GcmSiv(16)),
+    row!("AES128_GCM_SIV_RAW", RAW, Recipe::GcmSiv(16)),
+    row!("AES256_GCM_SIV", TINK, Recipe::GcmSiv(32)),
+    row!("AES256_GCM_SIV_RAW", RAW, Recipe::GcmSiv(32)),
+];
+
+/// How many templates there are.
+pub const TEMPLATE_COUNT: usize = TEMPLATES.len();
+
+/// A template: a row of the table. Contracts see its place, counted from 0.
 #[derive(Clone, Copy)]
 pub struct Template {
     row: usize,
@@ -58,12 +148,13 @@ pub struct Template {
 
 impl Model for Template {
     ghost use Rattle.std.specs.Prelude.{ℕ, ◌<◌};
+    ghost use Rattle.key_msgs.specs.declared.template.TheConstants.{TEMPLATE_COUNT};
 
     ghost Value = { ℕ };
 
     ghost view = { λ t. t.row };
 
-    ghost invariant = { λ t. t.row < 36 };
+    ghost invariant = { λ t. t.row < TEMPLATE_COUNT };
 
     ghost inverse = { λ place. record { row = place } };
 }
@@ -74,10 +165,7 @@ impl Template {
         ensures row { seen_row result ≡ seen self.now }
         ensures known { Contains templates (seen self.now) }
     {
-        match row_at(self.row) {
-            Some(row) => row,
-            None => unreachable!(),
-        }
+        row_at(&TEMPLATES, self.row)
     }
 
     /// The name of the template.
@@ -137,6 +225,14 @@ impl Template {
     }
 }
 
+/// The row at this place.
+fn row_at(rows: &[TemplateRow], place: usize) -> TemplateRow
+    requires within { place < length rows.now }
+    ensures { Some (seen_row result) ≡ slice_get (map seen_row rows.now) place }
+{
+    rows[place]
+}
+
 /// The type of the keys that a recipe makes.
 fn type_by(recipe: Recipe) -> KeyType
     ensures { result ≡ type_of (made_by recipe []) }
@@ -157,134 +253,15 @@ fn type_by(recipe: Recipe) -> KeyType
     }
 }
 
-fn tink(name: &'static str, recipe: Recipe) -> Option<TemplateRow>
-    ensures { option_map seen_row result ≡ Some (record { name = name.now; prefix = 1; recipe = recipe }) }
-{
-    Some(TemplateRow {
-        name,
-        prefix: TINK,
-        recipe,
-    })
-}
-
-fn raw(name: &'static str, recipe: Recipe) -> Option<TemplateRow>
-    ensures { option_map seen_row result ≡ Some (record { name = name.now; prefix = 3; recipe = recipe }) }
-{
-    Some(TemplateRow {
-        name,
-        prefix: RAW,
-        recipe,
-    })
-}
-
-/// The template of this row, counted from 0; `None` if and only if `row` is 36 or more. No memory
-/// is taken.
+/// The template of this row, counted from 0; `None` if and only if there are no more than `row`. No
+/// memory is taken.
 pub fn template_at(row: usize) -> Option<Template>
     ensures { option_map seen result ≡ slice_get templates row }
 {
-    if row < 36 {
+    if row < TEMPLATE_COUNT {
         Some(Template { row })
     } else {
         None
-    }
-}
-
-/// The row at this index.
-fn row_at(row: usize) -> Option<TemplateRow>
-    ensures { option_map seen_row result ≡ slice_get templates row }
-{
-    if row < 14 {
-        sealing_row(row)
-    } else if row < 24 {
-        tag_row(row)
-    } else if row < 32 {
-        stream_row(row)
-    } else {
-        gcm_siv_row(row)
-    }
-}
-
-/// The row at this index of the templates for AEAD and deterministic AEAD.
-fn sealing_row(row: usize) -> Option<TemplateRow>
-    requires most { row < 14 }
-    ensures { option_map seen_row result ≡ slice_get templates row }
-{
-    match row {
-        0 => tink("AES128_GCM", Recipe::Gcm(16)),
-        1 => raw("AES128_GCM_RAW", Recipe::Gcm(16)),
-        2 => tink("AES256_GCM", Recipe::Gcm(32)),
-        3 => raw("AES256_GCM_RAW", Recipe::Gcm(32)),
-        4 => tink("AES128_EAX", Recipe::Eax(16)),
-        5 => raw("AES128_EAX_RAW", Recipe::Eax(16)),
-        6 => tink("AES256_EAX", Recipe::Eax(32)),
-        7 => raw("AES256_EAX_RAW", Recipe::Eax(32)),
-        8 => tink("AES128_CTR_HMAC_SHA256", Recipe::CtrHmac(16, 16)),
-        9 => raw("AES128_CTR_HMAC_SHA256_RAW", Recipe::CtrHmac(16, 16)),
-        10 => tink("AES256_CTR_HMAC_SHA256", Recipe::CtrHmac(32, 32)),
-        11 => raw("AES256_CTR_HMAC_SHA256_RAW", Recipe::CtrHmac(32, 32)),
-        12 => tink("AES256_SIV", Recipe::Siv),
-        13 => raw("AES256_SIV_RAW", Recipe::Siv),
-        _ => None,
-    }
-}
-
-/// The row at this index of the templates for MAC and PRF.
-fn tag_row(row: usize) -> Option<TemplateRow>
-    requires least { 14 ≤ row }
-    requires most { row < 24 }
-    ensures { option_map seen_row result ≡ slice_get templates row }
-{
-    match row {
-        14 => tink("HMAC_SHA256_128BITTAG", Recipe::Hmac(32, Hash::Sha256, 16)),
-        15 => tink("HMAC_SHA256_256BITTAG", Recipe::Hmac(32, Hash::Sha256, 32)),
-        16 => tink("HMAC_SHA512_128BITTAG", Recipe::Hmac(64, Hash::Sha512, 16)),
-        17 => tink("HMAC_SHA512_256BITTAG", Recipe::Hmac(64, Hash::Sha512, 32)),
-        18 => tink("HMAC_SHA512_512BITTAG", Recipe::Hmac(64, Hash::Sha512, 64)),
-        19 => tink("AES256_CMAC", Recipe::Cmac),
-        20 => raw("HKDF_SHA256", Recipe::HkdfPrf),
-        21 => raw("HMAC_SHA256_PRF", Recipe::HmacPrf(32, Hash::Sha256)),
-        22 => raw("HMAC_SHA512_PRF", Recipe::HmacPrf(64, Hash::Sha512)),
-        23 => raw("AES_CMAC_PRF", Recipe::CmacPrf),
-        _ => None,
-    }
-}
-
-/// The row at this index of the templates for streams.
-fn stream_row(row: usize) -> Option<TemplateRow>
-    requires least { 24 ≤ row }
-    requires most { row < 32 }
-    ensures { option_map seen_row result ≡ slice_get templates row }
-{
-    match row {
-        24 => raw("AES128_GCM_HKDF_4KB", Recipe::GcmStream(16, 4096)),
-        25 => raw("AES128_GCM_HKDF_1MB", Recipe::GcmStream(16, 1_048_576)),
-        26 => raw("AES256_GCM_HKDF_4KB", Recipe::GcmStream(32, 4096)),
-        27 => raw("AES256_GCM_HKDF_1MB", Recipe::GcmStream(32, 1_048_576)),
-        28 => raw("AES128_CTR_HMAC_SHA256_4KB", Recipe::CtrStream(16, 4096)),
-        29 => raw(
-            "AES128_CTR_HMAC_SHA256_1MB",
-            Recipe::CtrStream(16, 1_048_576),
-        ),
-        30 => raw("AES256_CTR_HMAC_SHA256_4KB", Recipe::CtrStream(32, 4096)),
-        31 => raw(
-            "AES256_CTR_HMAC_SHA256_1MB",
-            Recipe::CtrStream(32, 1_048_576),
-        ),
-        _ => None,
-    }
-}
-
-/// The row at this index of the templates for AES-GCM-SIV; `None` from 36 on.
-fn gcm_siv_row(row: usize) -> Option<TemplateRow>
-    requires least { 32 ≤ row }
-    ensures { option_map seen_row result ≡ slice_get templates row }
-{
-    match row {
-        32 => tink("AES128_GCM_SIV", Recipe::GcmSiv(16)),
-        33 => raw("AES128_GCM_SIV_RAW", Recipe::GcmSiv(16)),
-        34 => tink("AES256_GCM_SIV", Recipe::GcmSiv(32)),
-        35 => raw("AES256_GCM_SIV_RAW", Recipe::GcmSiv(32)),
-        _ => None,
     }
 }
 
@@ -304,7 +281,7 @@ pub enum TemplateFault {
 pub fn template_named(name: &str) -> Result<Template, TemplateFault>
     ensures { FindsTemplate name.now result }
 {
-    for row in 0..36 {
+    for row in 0..TEMPLATE_COUNT {
         if let Some(template) = template_at(row) {
             if template.name() == name {
                 return Ok(template);
