@@ -1,4 +1,5 @@
 pub mod Finding
+pub mod FromContents
 pub mod Made
 pub mod ReadingBack
 pub mod ReadingLemmas
