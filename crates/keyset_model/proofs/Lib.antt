@@ -1,4 +1,5 @@
 pub mod BinaryBack
+pub mod ChangeLemmas
 pub mod Exits
 pub mod FaultlessLemmas
 pub mod KeyLemmas

@@ -1,3 +1,4 @@
+pub mod Changes
 pub mod Keyset
 pub mod Listing
 pub mod Reading

@@ -1,7 +1,8 @@
 //! Keysets, well formed by their type's invariant.
 
-ghost use Rattle.std.specs.Prelude.{◌≡◌, ◌<◌, ◌≤◌, ◌≢◌, ◌↔◌, length, Some, None, IsNone, All, slice_get, position, ◌==◌, IfOk, IfSome};
+ghost use Rattle.std.specs.Prelude.{◌≡◌, ◌<◌, ◌≤◌, ◌≢◌, ◌↔◌, length, Some, None, IsNone, All, slice_get, position, ◌==◌, IfOk, IfSome, OnOk, OnErr};
 ghost use Rattle.std.specs.List.{AllByRecursion};
+ghost use Rattle.keyset_model.specs.Changes.{destroyed_at, with_primary, with_record, with_status_at, without_at};
 ghost use Rattle.keyset_model.specs.Keyset.{HasSizes, IsKnown, is_primary, primary_of, fault_of, built};
 ghost use Rattle.keyset_model.specs.WellFormed.{IsWellFormed};
 
@@ -9,7 +10,10 @@ use crate::Record;
 use crate::faults::{fault_of, primary_place};
 use std::alloc::Global;
 use std::marker::Model;
-use tink_base::{ENABLED, NoMemory};
+use tink_base::{Bytes, DESTROYED, ENABLED, NoMemory, Text};
+
+/// The key material type of a record with no key data (tink.proto, KeyMaterialType).
+const UNKNOWN: u32 = 0;
 
 /// Why records with a primary id are no keyset, in the order in which faults are looked for. Places
 /// count from 0, and a fault names the first place that has it.
@@ -124,6 +128,7 @@ impl Keyset {
         ensures count { result ≡ length self.now.records }
         ensures least { 1 ≤ result }
         ensures most { result ≤ 1000 }
+        ensures faultless { fault_of self.now ≡ None }
     {
         self.records.len()
     }
@@ -143,8 +148,60 @@ impl Keyset {
         ensures place { result ≡ position (λ r. r.id == id) self.now.records }
         ensures none { IsNone result ↔ All (λ r. r.id ≢ id) self.now.records }
         ensures within { IfSome result (λ i. i < length self.now.records) }
+        ensures faultless { fault_of self.now ≡ None }
     {
         self.records.iter().position(|key| key.id == id)
+    }
+
+    /// Adds a record at the end. If memory can't be allocated, the keyset stays as it is.
+    pub fn push(&mut self, key: Record) -> Result<(), NoMemory>
+        requires sizes { HasSizes key }
+        requires faultless { fault_of (with_record self.old key) ≡ None }
+        ensures pushed { OnOk result (self.new ≡ with_record self.old key) }
+        ensures kept { OnErr result (self.new ≡ self.old) }
+    {
+        self.records.push(key)?;
+        Ok(())
+    }
+
+    /// Makes another id the primary one. No memory is taken.
+    pub fn set_primary(&mut self, id: u32)
+        requires faultless { fault_of (with_primary self.old id) ≡ None }
+        ensures { self.new ≡ with_primary self.old id }
+    {
+        self.primary = id;
+    }
+
+    /// Gives the record at this place, counted from 0, another status. No memory is taken.
+    pub fn set_status(&mut self, place: usize, status: u32)
+        requires place_bound { place < length self.old.records }
+        requires faultless { fault_of (with_status_at self.old place status) ≡ None }
+        ensures { self.new ≡ with_status_at self.old place status }
+    {
+        self.records[place].status = status;
+    }
+
+    /// Makes the record at this place, counted from 0, DESTROYED, and removes its key data. No
+    /// memory is taken.
+    pub fn destroy(&mut self, alloc: Global, place: usize)
+        requires place_bound { place < length self.old.records }
+        requires faultless { fault_of (destroyed_at self.old place) ≡ None }
+        ensures { self.new ≡ destroyed_at self.old place }
+    {
+        let key = &mut self.records[place];
+        key.status = DESTROYED;
+        key.url = Text::own(String::new(alloc));
+        key.value = Bytes::own(Vec::new(alloc));
+        key.material = UNKNOWN;
+    }
+
+    /// Removes the record at this place, counted from 0. No memory is taken.
+    pub fn remove(&mut self, place: usize)
+        requires place_bound { place < length self.old.records }
+        requires faultless { fault_of (without_at self.old place) ≡ None }
+        ensures { self.new ≡ without_at self.old place }
+    {
+        let _removed = self.records.remove(place);
     }
 }
 
