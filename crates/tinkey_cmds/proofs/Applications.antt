@@ -1,6 +1,6 @@
 -- How the answers of code follow from what was drawn.
 use Rattle.std.proofs.Common.{◌≡◌, ◌∙◌, ℕ, List, [], ◌++◌, Option, Some, None, Result, Ok, Err, refl, sym, ap, subst}
-use Rattle.std.specs.Prelude.{OnOk, IfOk, ◌≤◌, ◌<◌, length, nat_le, Bool, true, false}
+use Rattle.std.specs.Prelude.{OnErr, OnOk, IfOk, ◌≤◌, ◌<◌, length, nat_le, Bool, true, false}
 use Rattle.std.proofs.Common.{arith}
 use Rattle.std.proofs.lemmas.Bool.Decides.{nat_tests}
 use Rattle.key_msgs.specs.declared.primitive.Primitive.{Primitive}
@@ -17,7 +17,7 @@ use Rattle.tinkey_cmds.specs.declared.command.CmdFault.{CmdFault}
 use Rattle.tinkey_cmds.specs.declared.command.CmdFault.TheVariants.{MixedPrimitive, TooManyKeys}
 use Rattle.tinkey_cmds.specs.Draws.{Draw, answered}
 use Rattle.tinkey_cmds.specs.Edits.{Edit, Add, Rotate, new_record, grown, added, rotated, alone, full_or_mixed, is_same, primary_primitive, refusal_of, effect_of, unless_refused, step, first}
-use Rattle.tinkey_cmds.specs.Applying.{Draws, Applied, Edited}
+use Rattle.tinkey_cmds.specs.Applying.{Draws, Applied, Edited, answer_with}
 use Rattle.tinkey_cmds.specs.Laws.{HasTemplate, IsTemplate}
 use Rattle.tinkey_cmds.proofs.Cases.{Yields}
 use Rattle.tinkey_cmds.proofs.Drawings.{continues-and_then, continues-draws, draws-answered, draws-refused, ran_out-first}
@@ -88,11 +88,11 @@ pub short-step : (keys : Keys) (edit : Edit) (result : Result Keys CmdError) (ol
 short-step keys edit (Ok k) old new has short is = yielded-drawn _ (step keys edit) k old new (each-kept IsShort kept-short keys edit short) is.1 has
 short-step keys edit (Err error) old new has short is = tt
 
--- the same, where the template is known of what was made
-pub short-known : (keys : Keys) (edit : Edit) (result : Result Keys CmdError) (old new : EntropyState) → OnOk result (HasTemplate edit) → AllByRecursion IsShort keys.records
-    → Applied result (step keys edit) old new → IfOk result (λ k. AllByRecursion IsShort k.records)
-short-known keys edit (Ok k) old new has short is = short-step keys edit (Ok k) old new has short is
-short-known keys edit (Err error) old new has short is = tt
+-- the same of the keyset that an edit left, where the template is known of what was made
+pub short-edited : (result : Result (Unit {0}) CmdError) (keys new : Keys) (edit : Edit) (old after : EntropyState) → OnOk result (HasTemplate edit) → OnErr result (new ≡ keys) → AllByRecursion IsShort keys.records
+    → Applied (answer_with result new) (step keys edit) old after → AllByRecursion IsShort new.records
+short-edited (Ok done) keys new edit old after has kept short is = short-step keys edit (Ok new) old after has short is
+short-edited (Err error) keys new edit old after has kept short is = subst (λ (k : Keys). AllByRecursion IsShort k.records) (sym kept) short
 
 -- ---- no room, or another primitive
 

@@ -1,6 +1,6 @@
 -- Lists, tests and options.
 use Rattle.std.proofs.lemmas.Option.{same_Some}
-use Rattle.std.specs.Prelude.{is_some, slice_get, take, drop, zero}
+use Rattle.std.specs.Prelude.{is_some, slice_get, drop, zero}
 use Rattle.std.proofs.Common.{◌≡◌, ◌∙◌, sym, ℕ, suc, ◌+◌, Bool, true, false, List, [], ◌∷◌, ◌++◌, length, position, Option, Some, None, refl, ap, arith, add-one, ◌<◌}
 use Rattle.std.specs.List.{list_any, list_all, AllByRecursion}
 use Rattle.std.proofs.lemmas.Bool.{and_parts}
@@ -35,15 +35,6 @@ some-position {A} p xs = elim (position p xs) as (λ (o : Option ℕ). position 
     | false ↦ λ k. absurd (some≢none (sym e ∙ position-none p xs k))
   ] refl
 ] refl
-
--- one more of the first
-take-suc : {A : Type 0} (xs : List A) (i : ℕ) (x : A) → slice_get xs i ≡ Some x → take (suc i) xs ≡ take i xs ++ (x ∷ [])
-take-suc [] i x e = absurd (none≢some e)
-take-suc (y ∷ ys) zero x e = ap (λ z. z ∷ []) (same_Some _ _ e)
-take-suc (y ∷ ys) (suc i) x e = ap (λ zs. y ∷ zs) (take-suc ys i x e)
-
-pub take-next : {A : Type 0} (xs : List A) (i : ℕ) (x : A) → slice_get xs i ≡ Some x → take (i + 1) xs ≡ take i xs ++ (x ∷ [])
-take-next xs i x e = rw add-one (take-suc xs i x e)
 
 -- the elements from a place on
 drop-suc : {A : Type 0} (xs : List A) (i : ℕ) (x : A) → slice_get xs i ≡ Some x → drop i xs ≡ x ∷ drop (suc i) xs

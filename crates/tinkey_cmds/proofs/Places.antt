@@ -6,8 +6,10 @@ use Rattle.std.proofs.lemmas.Bool.{ltb-true, ne_eqb}
 use Rattle.std.proofs.lemmas.Option.{cond_some}
 use Rattle.keyset_model.specs.declared.record.Record.{Record}
 use Rattle.keyset_model.specs.Keyset.{has_id, is_enabled, is_primary}
-use Rattle.tinkey_cmds.specs.Edits.{changed, without, destroyed}
-use Rattle.tinkey_cmds.proofs.Lists.{drop-next}
+use Rattle.keyset_model.specs.Changes.{changed_at}
+use Rattle.keyset_model.proofs.ChangeLemmas.{set-changed_at}
+use Rattle.tinkey_cmds.specs.Edits.{changed, without}
+use Rattle.tinkey_cmds.proofs.Lists.{drop-next, slice-there}
 
 -- how many records stand before the first with that id
 before : ℕ → List Record → ℕ
@@ -80,21 +82,12 @@ others-next id i records r there fails = ap (list_any (is_primary id)) (drop-nex
 pub others-here : (id i : ℕ) (records : List Record) (r : Record) → slice_get records i ≡ Some r → is_primary id r ≡ true → list_any (is_primary id) (drop i records) ≡ true
 others-here id i records r there passes = ap (list_any (is_primary id)) (drop-next records i r there) ∙ ap (λ b. b || list_any (is_primary id) (drop (i + 1) records)) passes
 
--- the record at the place of an id is written
-pub set-changed : (change : Record → Record) (id i : ℕ) (records items : List Record) (r : Record) → items ≡ records → Some i ≡ position (has_id id) records
-    → r ≡ get_or items i r → set items i (change r) ≡ changed change id records
-set-changed change id i records items r same place is =
-    ap (λ rs. set rs i (change r)) same ∙ ap (λ x. set records i (change x)) (is ∙ ap (λ rs. get_or rs i r) same) ∙ sym (edits_by_place change id i records r (sym place)).0
+-- the record at the place of an id changes
+pub at-changed : (change : Record → Record) (id i : ℕ) (records : List Record) → i < length records → Some i ≡ position (has_id id) records → changed_at change i records ≡ changed change id records
+at-changed change id i records within place =
+    let there = slice-there records i within in
+    sym (set-changed_at change i records there.0 within) ∙ sym (edits_by_place change id i records there.0 (sym place)).0
 
--- with no key data
-pub set-destroyed : (id i : ℕ) (records items : List Record) (r : Record) (url value : List ℕ) → items ≡ records → Some i ≡ position (has_id id) records
-    → r ≡ get_or items i r → url ≡ [] → value ≡ []
-    → set items i (record { id = r.id; status = 3; prefix = r.prefix; url = url; value = value; material = 0 }) ≡ changed destroyed id records
-set-destroyed id i records items r url value same place is no_url no_value =
-    ap (λ u. set items i (record { id = r.id; status = 3; prefix = r.prefix; url = u; value = value; material = 0 })) no_url
-    ∙ ap (λ v. set items i (record { id = r.id; status = 3; prefix = r.prefix; url = []; value = v; material = 0 })) no_value
-    ∙ set-changed destroyed id i records items r same place is
-
--- it is removed
-pub remove-without : (id i : ℕ) (records items : List Record) (default : Record) → items ≡ records → Some i ≡ position (has_id id) records → remove items i ≡ without id records
-remove-without id i records items default same place = ap (λ rs. remove rs i) same ∙ sym (edits_by_place (λ r. r) id i records default (sym place)).1
+-- it goes
+pub at-removed : (id i : ℕ) (records : List Record) → i < length records → Some i ≡ position (has_id id) records → remove records i ≡ without id records
+at-removed id i records within place = let there = slice-there records i within in sym (edits_by_place (λ r. r) id i records there.0 (sym place)).1

@@ -12,12 +12,14 @@ use Rattle.tinkey_cmds.specs.declared.command.CmdFault.{CmdFault}
 use Rattle.tinkey_cmds.specs.declared.command.CmdFault.TheVariants.{KeyNotFound, KeyIsPrimary, KeyNotEnabled, KeyDestroyed, KeyRefused, MixedPrimitive, AmbiguousPrimary}
 use Rattle.tinkey_cmds.specs.declared.command.CmdError.{CmdError}
 use Rattle.tinkey_cmds.specs.declared.command.CmdError.TheVariants.{Refused, EntropyFault, NoMemory}
-use Rattle.tinkey_cmds.specs.Applying.{Edited}
+use Rattle.keyset_model.specs.Changes.{destroyed_at, with_status_at, without_at}
+use Rattle.tinkey_cmds.specs.Applying.{Edited, answer_with}
 use Rattle.tinkey_cmds.specs.Draws.{Draw, answered}
 use Rattle.tinkey_cmds.specs.Edits.{Edit, Promote, Enable, Disable, Destroy, Delete, named, of_named, refusal_of, effect_of, unless_refused, step, primitive_of, primary_primitive, is_same, rule_of, with_records, with_status, destroyed, changed, without}
 use Rattle.tinkey_cmds.specs.Laws.{HasTemplate}
 use Rattle.tinkey_cmds.proofs.Kept.{edits_keep_keysets}
 use Rattle.tinkey_cmds.proofs.Lists.{slice-there}
+use Rattle.tinkey_cmds.proofs.Places.{at-changed, at-removed}
 
 -- ---- steps
 
@@ -39,22 +41,6 @@ settled-unless None effect s = s
 pub settled-enable : (keys : Keys) (id : ℕ) → (answer : Result Keys CmdFault) × ((random : List ℕ) → step keys (Enable id) random ≡ answered answer random)
 unfolding Settled effect_of
 settled-enable keys id = settled-unless (refusal_of keys (Enable id)) (effect_of keys (Enable id)) (_, λ random. refl)
-
-pub settled-promote : (keys : Keys) (id : ℕ) → (answer : Result Keys CmdFault) × ((random : List ℕ) → step keys (Promote id) random ≡ answered answer random)
-unfolding Settled effect_of
-settled-promote keys id = settled-unless (refusal_of keys (Promote id)) (effect_of keys (Promote id)) (_, λ random. refl)
-
-pub settled-disable : (keys : Keys) (id : ℕ) → (answer : Result Keys CmdFault) × ((random : List ℕ) → step keys (Disable id) random ≡ answered answer random)
-unfolding Settled effect_of
-settled-disable keys id = settled-unless (refusal_of keys (Disable id)) (effect_of keys (Disable id)) (_, λ random. refl)
-
-pub settled-destroy : (keys : Keys) (id : ℕ) → (answer : Result Keys CmdFault) × ((random : List ℕ) → step keys (Destroy id) random ≡ answered answer random)
-unfolding Settled effect_of
-settled-destroy keys id = settled-unless (refusal_of keys (Destroy id)) (effect_of keys (Destroy id)) (_, λ random. refl)
-
-pub settled-delete : (keys : Keys) (id : ℕ) → (answer : Result Keys CmdFault) × ((random : List ℕ) → step keys (Delete id) random ≡ answered answer random)
-unfolding Settled effect_of
-settled-delete keys id = settled-unless (refusal_of keys (Delete id)) (effect_of keys (Delete id)) (_, λ random. refl)
 
 -- ---- the record that is named
 
@@ -177,31 +163,37 @@ pub effect-delete : (keys : Keys) (id : ℕ) (random : List ℕ) → effect_of k
 unfolding effect_of
 effect-delete keys id random = refl
 
-pub same_keys : (target : Keys) (primary : ℕ) (items : List Record) → primary ≡ target.primary → items ≡ target.records → record { primary = primary; records = items } ≡ target
-same_keys target primary items p r = ap (λ n. record { primary = n; records = items }) p ∙ ap (λ rs. record { primary = target.primary; records = rs }) r
-
 -- an accepted edit's keyset has no fault
-pub edit-faultless : (keys target : Keys) (edit : Edit) (primary : ℕ) (items : List Record) → HasTemplate edit → fault_of keys ≡ None → refusal_of keys edit ≡ None
-    → ((random : List ℕ) → effect_of keys edit random ≡ answered (Ok target) random) → primary ≡ target.primary → items ≡ target.records
-    → fault_of (record { primary = primary; records = items }) ≡ None
-edit-faultless keys target edit primary items has faultless is effect p r =
-    ap fault_of (same_keys target primary items p r) ∙ edits_keep_keysets keys target edit [] _ has faultless (step-accepted keys edit is [] ∙ effect []) refl
+pub edit-faultless : (keys target new : Keys) (edit : Edit) → HasTemplate edit → fault_of keys ≡ None → refusal_of keys edit ≡ None
+    → ((random : List ℕ) → effect_of keys edit random ≡ answered (Ok target) random) → new ≡ target → fault_of new ≡ None
+edit-faultless keys target new edit has faultless is effect same =
+    ap fault_of same ∙ edits_keep_keysets keys target edit [] _ has faultless (step-accepted keys edit is [] ∙ effect []) refl
 
 -- it is the edit's answer
-pub edit-answer : (keys target new : Keys) (edit : Edit) (primary : ℕ) (items : List Record) → refusal_of keys edit ≡ None
-    → ((random : List ℕ) → effect_of keys edit random ≡ answered (Ok target) random) → primary ≡ target.primary → items ≡ target.records
-    → new ≡ record { primary = primary; records = items } → (random : List ℕ) → step keys edit random ≡ answered (Ok new) random
-edit-answer keys target new edit primary items is effect p r same random =
-    step-accepted keys edit is random ∙ effect random ∙ ap (λ k. answered (Ok k) random) (sym (same ∙ same_keys target primary items p r))
+pub edit-answer : (keys target new : Keys) (edit : Edit) → refusal_of keys edit ≡ None
+    → ((random : List ℕ) → effect_of keys edit random ≡ answered (Ok target) random) → new ≡ target → (random : List ℕ) → step keys edit random ≡ answered (Ok new) random
+edit-answer keys target new edit is effect same random =
+    step-accepted keys edit is random ∙ effect random ∙ ap (λ k. answered (Ok k) random) (sym same)
+
+-- ---- what a change in place gives
+
+pub status-changed : (keys : Keys) (id i status : ℕ) → i < length keys.records → Some i ≡ position (has_id id) keys.records → with_status_at keys i status ≡ with_records keys (changed (with_status status) id keys.records)
+status-changed keys id i status within place = ap (with_records keys) (at-changed (with_status status) id i keys.records within place)
+
+pub key-destroyed : (keys : Keys) (id i : ℕ) → i < length keys.records → Some i ≡ position (has_id id) keys.records → destroyed_at keys i ≡ with_records keys (changed destroyed id keys.records)
+key-destroyed keys id i within place = ap (with_records keys) (at-changed destroyed id i keys.records within place)
+
+pub key-removed : (keys : Keys) (id i : ℕ) → i < length keys.records → Some i ≡ position (has_id id) keys.records → without_at keys i ≡ with_records keys (without id keys.records)
+key-removed keys id i within place = ap (with_records keys) (at-removed id i keys.records within place)
 
 -- ---- answers
 
-pub memory-edited : (result : Result Keys CmdError) (give : Draw Keys) → IsErr result → IsErrAnd result (λ error. error ≡ NoMemory)
-    → (answer : Result Keys CmdFault) × ((random : List ℕ) → give random ≡ answered answer random) → Edited result give
-memory-edited (Ok keys) give err is settled = absurd (false≢true err)
-memory-edited (Err (Refused fault)) give err is settled = absurd (grind arith)
-memory-edited (Err EntropyFault) give err is settled = absurd (grind arith)
-memory-edited (Err NoMemory) give err is settled = settled
+pub memory-edited : (result : Result (Unit {0}) CmdError) (new : Keys) (give : Draw Keys) → IsErr result → IsErrAnd result (λ error. error ≡ NoMemory)
+    → (answer : Result Keys CmdFault) × ((random : List ℕ) → give random ≡ answered answer random) → Edited (answer_with result new) give
+memory-edited (Ok done) new give err is settled = absurd (false≢true err)
+memory-edited (Err (Refused fault)) new give err is settled = absurd (grind arith)
+memory-edited (Err EntropyFault) new give err is settled = absurd (grind arith)
+memory-edited (Err NoMemory) new give err is settled = settled
 
 -- what a test of primitives says
 pub same-test : (keys : Keys) (url text : List ℕ) (a b : Option Primitive) (same test : Bool) → a ≡ primitive_of text → text ≡ url → b ≡ primary_primitive keys

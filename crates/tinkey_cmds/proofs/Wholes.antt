@@ -7,7 +7,7 @@ use Rattle.tink_spec.proofs.Moves.{drew_more, drew_nothing, lost_later}
 use Rattle.keyset_model.specs.Keyset.{Keys}
 use Rattle.tinkey_cmds.specs.declared.command.CmdError.{CmdError}
 use Rattle.tinkey_cmds.specs.declared.command.CmdError.TheVariants.{Refused, EntropyFault, NoMemory}
-use Rattle.tinkey_cmds.specs.Applying.{DrawsWhole, DrewIds, Edited, LostBehindIds}
+use Rattle.tinkey_cmds.specs.Applying.{DrawsWhole, DrewIds, Edited, LostBehindIds, answer_with}
 use Rattle.tinkey_cmds.specs.Draws.{Draw}
 
 -- so many groups of four bytes were drawn
@@ -46,11 +46,11 @@ pub groups-end : (old mid new : EntropyState) (groups : ℕ) → groups ≤ 64 �
 groups-end old mid new groups most before ran = ids-lost old mid new 4 4 (omega arith) (groups-ids old mid groups most before) ran
 
 -- an edit that draws nothing
-pub edited-whole : (result : Result Keys CmdError) (give : Draw Keys) (s : EntropyState) → Edited result give → DrawsWhole result s s
-edited-whole (Ok keys) give s is = tt
-edited-whole (Err (Refused fault)) give s is = tt
-edited-whole (Err EntropyFault) give s is = absurd is
-edited-whole (Err NoMemory) give s is = tt
+pub edited-whole : (result : Result (Unit {0}) CmdError) (new : Keys) (give : Draw Keys) (s : EntropyState) → Edited (answer_with result new) give → DrawsWhole result s s
+edited-whole (Ok done) new give s is = tt
+edited-whole (Err (Refused fault)) new give s is = tt
+edited-whole (Err EntropyFault) new give s is = absurd is
+edited-whole (Err NoMemory) new give s is = tt
 
 -- an error of the new record is handed on
 pub error-whole : (A B : Type 0) (error : CmdError) (old new : EntropyState) → DrawsWhole {A = A} (Err error) old new → DrawsWhole {A = B} (Err error) old new
@@ -66,6 +66,10 @@ on_error (Err e) P is = tt
 pub in_all : {T E : Type 0} (result : Result T E) (P : Type 0) → P → OnErr result P
 in_all (Ok x) P is = tt
 in_all (Err e) P is = is
+
+pub in_any : {T E : Type 0} (result : Result T E) (P : Type 0) → P → OnOk result P
+in_any (Ok x) P is = is
+in_any (Err e) P is = tt
 
 -- but for the entropy's fault
 pub id-fault : (old new : EntropyState) → LostBehindIds old new 4 → LostBehindIds old new 64

@@ -70,8 +70,13 @@ DrewId (Ok (Some id)) give old new = Stood old.faults new.faults × Draws give o
 DrewId (Ok None) give old new = Stood old.faults new.faults × Draws give old new (Err IdsExhausted)
 DrewId (Err failed) give old new = RanOut give old new
 
+-- The keyset that an edit left, if it was accepted, or else the error.
+abbrev pub answer_with : Result (Unit {0}) CmdError → Keys → Result Keys CmdError
+answer_with (Ok done) keys = Ok keys
+answer_with (Err error) keys = Err error
+
 -- The answer of an edit that draws nothing.
-abbrev pub Edited : Result Keyset CmdError → Draw Keys → Type 0
+abbrev pub Edited : Result Keys CmdError → Draw Keys → Type 0
 Edited (Ok keyset) give = (random : List ℕ) → give random ≡ answered (Ok keyset) random
 Edited (Err (Refused fault)) give = (random : List ℕ) → give random ≡ answered (Err fault) random
 Edited (Err EntropyFault) give = ⊥

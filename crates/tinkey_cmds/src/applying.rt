@@ -1,17 +1,15 @@
 //! Edits of keysets, and new ones.
 
-ghost use Rattle.std.specs.Prelude.{◌≡◌, [], ◌∷◌, ◌++◌, None, IfOk, OnOk};
+ghost use Rattle.std.specs.Prelude.{◌≡◌, [], ◌∷◌, None, IfOk, OnOk, OnErr};
 ghost use Rattle.std.specs.List.{AllByRecursion};
 ghost use Rattle.key_msgs.specs.Templates.{seen};
 ghost use Rattle.keyset_model.specs.Keyset.{HasSizes, IsShort, fault_of};
-ghost use Rattle.tinkey_cmds.specs.Applying.{Applied, DrawsWhole};
+ghost use Rattle.tinkey_cmds.specs.Applying.{Applied, DrawsWhole, answer_with};
 ghost use Rattle.tinkey_cmds.specs.Edits.{Add, Rotate, first, seen_edit, step, full_or_mixed};
 ghost use Rattle.tinkey_cmds.specs.Laws.{IsTemplate};
 
 use crate::drawing::new_record;
-use crate::editing::{
-    copies, delete, destroy, disable, enable, is_same, primary_primitive, promote, rebuilt,
-};
+use crate::editing::{delete, destroy, disable, enable, is_same, primary_primitive, promote};
 use crate::{CmdError, CmdFault, Command};
 use key_msgs::Template;
 use keyset_model::{Keyset, Record};
@@ -50,93 +48,98 @@ pub fn create<E: Entropy>(
     Ok(rebuilt(primary, records))
 }
 
-/// A keyset after an edit.
+/// Edits a keyset. If the edit is refused, or gives no keyset for another reason, the keyset stays
+/// as it is.
 ///
 /// A new key gets an id as in `create`, but one that no record has. An edit with an id changes the
 /// first record that has it; all others stay in place. `Refused` comes if and only if the edit is
 /// refused, with the first reason in the order of the edit's own checks; only `IdsExhausted` comes
 /// after bytes were drawn. `EntropyFault` comes only if the entropy failed; by then only whole ids
 /// were drawn, apart from what the failed fill may have lost. At `NoMemory` everything that the
-/// edit draws has been drawn. A keyset of short records gives one of short records.
+/// edit draws has been drawn. No record is copied. A keyset of short records stays one.
 pub fn apply<E: Entropy>(
     alloc: Global,
-    keyset: &Keyset,
+    keyset: &mut Keyset,
     command: &Command<Template>,
     entropy: &mut E,
-) -> Result<Keyset, CmdError>
-    ensures step { Applied result (step keyset.now (seen_edit command.now))
-        (E.state entropy.old) (E.state entropy.new) }
+) -> Result<(), CmdError>
+    ensures step { Applied (answer_with result keyset.new)
+        (step keyset.old (seen_edit command.now)) (E.state entropy.old) (E.state entropy.new) }
+    ensures kept { OnErr result (keyset.new ≡ keyset.old) }
     ensures whole { DrawsWhole result (E.state entropy.old) (E.state entropy.new) }
-    ensures short { AllByRecursion IsShort keyset.now.records →
-        IfOk result (λ keyset. AllByRecursion IsShort keyset.records) }
+    ensures short { AllByRecursion IsShort keyset.old.records →
+        AllByRecursion IsShort keyset.new.records }
 {
     match *command {
         Command::Add(template) => add(alloc, keyset, &template, entropy),
         Command::Rotate(template) => rotate(alloc, keyset, &template, entropy),
-        Command::Promote(id) => promote(alloc, keyset, id),
+        Command::Promote(id) => promote(keyset, id),
         Command::Enable(id) => enable(alloc, keyset, id),
-        Command::Disable(id) => disable(alloc, keyset, id),
+        Command::Disable(id) => disable(keyset, id),
         Command::Destroy(id) => destroy(alloc, keyset, id),
-        Command::Delete(id) => delete(alloc, keyset, id),
+        Command::Delete(id) => delete(keyset, id),
     }
 }
 
 /// Adds a new key at the end.
 fn add<E: Entropy>(
     alloc: Global,
-    keyset: &Keyset,
+    keyset: &mut Keyset,
     template: &Template,
     entropy: &mut E,
-) -> Result<Keyset, CmdError>
+) -> Result<(), CmdError>
     ensures known { OnOk result (IsTemplate (seen template.now)) }
-    ensures step { Applied result (step keyset.now (Add (seen template.now)))
-        (E.state entropy.old) (E.state entropy.new) }
+    ensures step { Applied (answer_with result keyset.new)
+        (step keyset.old (Add (seen template.now))) (E.state entropy.old) (E.state entropy.new) }
+    ensures kept { OnErr result (keyset.new ≡ keyset.old) }
     ensures whole { DrawsWhole result (E.state entropy.old) (E.state entropy.new) }
 {
     if let Some(fault) = full_or_mixed(keyset, template) {
         return Err(CmdError::Refused(fault));
     }
-    let key = match new_record(alloc, template, Some(keyset), entropy) {
+    let key = match new_record(alloc, template, Some(&*keyset), entropy) {
         Ok(key) => key,
         Err(error) => return Err(error),
     };
-    let records = match grown(alloc, keyset, key) {
-        Ok(records) => records,
-        Err(NoMemory) => return Err(CmdError::NoMemory),
-    };
-    Ok(rebuilt(keyset.primary(), records))
+    match keyset.push(key) {
+        Ok(()) => Ok(()),
+        Err(NoMemory) => Err(CmdError::NoMemory),
+    }
 }
 
 /// Adds a new key at the end, and makes it primary.
 fn rotate<E: Entropy>(
     alloc: Global,
-    keyset: &Keyset,
+    keyset: &mut Keyset,
     template: &Template,
     entropy: &mut E,
-) -> Result<Keyset, CmdError>
+) -> Result<(), CmdError>
     ensures known { OnOk result (IsTemplate (seen template.now)) }
-    ensures step { Applied result (step keyset.now (Rotate (seen template.now)))
-        (E.state entropy.old) (E.state entropy.new) }
+    ensures step { Applied (answer_with result keyset.new)
+        (step keyset.old (Rotate (seen template.now))) (E.state entropy.old) (E.state entropy.new) }
+    ensures kept { OnErr result (keyset.new ≡ keyset.old) }
     ensures whole { DrawsWhole result (E.state entropy.old) (E.state entropy.new) }
 {
     if let Some(fault) = full_or_mixed(keyset, template) {
         return Err(CmdError::Refused(fault));
     }
-    let key = match new_record(alloc, template, Some(keyset), entropy) {
+    let key = match new_record(alloc, template, Some(&*keyset), entropy) {
         Ok(key) => key,
         Err(error) => return Err(error),
     };
     let new_primary = key.id;
-    let records = match grown(alloc, keyset, key) {
-        Ok(records) => records,
+    match keyset.push(key) {
+        Ok(()) => {}
         Err(NoMemory) => return Err(CmdError::NoMemory),
-    };
-    Ok(rebuilt(new_primary, records))
+    }
+    keyset.set_primary(new_primary);
+    Ok(())
 }
 
 /// Why a keyset takes no key of a template, whatever bytes are drawn.
 fn full_or_mixed(keyset: &Keyset, template: &Template) -> Option<CmdFault>
-    ensures { result ≡ full_or_mixed keyset.now (seen template.now) }
+    ensures fault { result ≡ full_or_mixed keyset.now (seen template.now) }
+    ensures faultless { fault_of keyset.now ≡ None }
 {
     if keyset.len() >= MOST_RECORDS {
         return Some(CmdFault::TooManyKeys);
@@ -156,13 +159,14 @@ fn alone(alloc: Global, key: Record) -> Result<Vec<Record>, NoMemory>
     Ok(one)
 }
 
-/// The records of a keyset and one more at the end.
-fn grown(alloc: Global, keyset: &Keyset, key: Record) -> Result<Vec<Record>, NoMemory>
-    ensures faultless { fault_of keyset.now ≡ None }
-    ensures same { IfOk result (λ records. records.items ≡ keyset.now.records ++ (key ∷ [])) }
-    ensures sizes { HasSizes key → IfOk result (λ records. AllByRecursion HasSizes records.items) }
+/// The keyset of these records, which have no fault.
+fn rebuilt(primary: u32, records: Vec<Record>) -> Keyset
+    requires sizes { AllByRecursion HasSizes records.items }
+    requires faultless { fault_of (record { primary = primary; records = records.items }) ≡ None }
+    ensures { result ≡ record { primary = primary; records = records.items } }
 {
-    let mut records = copies(alloc, keyset)?;
-    records.push(key)?;
-    Ok(records)
+    match Keyset::build(primary, records) {
+        Ok(keyset) => keyset,
+        Err(_) => unreachable!(),
+    }
 }

@@ -170,7 +170,7 @@ fn edit_under<S: Source, K: Sink, E: Entropy, D: Store>(
         (world (S.state source.new) (K.state sink.new) (D.state store.new) (E.state entropy.new)) }
 {
     let keyset = take_under(alloc, lock, input, source, store)?;
-    let edited = edit_of(alloc, &keyset, edit, entropy)?;
+    let edited = edit_of(alloc, keyset, edit, entropy)?;
     put_under(alloc, lock, output, &edited, sink, entropy, store)
 }
 
@@ -189,19 +189,20 @@ fn create_of<E: Entropy>(
     Ok(keyset)
 }
 
-/// The keyset after an edit.
+/// The keyset after an edit, which changes it in place.
 fn edit_of<E: Entropy>(
     alloc: Global,
-    keyset: &Keyset,
+    keyset: Keyset,
     command: &Command<Template>,
     entropy: &mut E,
 ) -> Result<Keyset, Status>
-    requires short { AllByRecursion IsShort keyset.now.records }
-    ensures passes { (w : World) → Passes (makes_keyset (step keyset.now (seen_command command.now)))
+    requires short { AllByRecursion IsShort keyset.records }
+    ensures passes { (w : World) → Passes (makes_keyset (step keyset (seen_command command.now)))
         (record w { entropy = E.state entropy.old }) result
         (record w { entropy = E.state entropy.new }) }
     ensures short { IfOk result (λ keyset. AllByRecursion IsShort keyset.records) }
 {
-    let edited = apply(alloc, keyset, command, entropy)?;
+    let mut edited = keyset;
+    apply(alloc, &mut edited, command, entropy)?;
     Ok(edited)
 }

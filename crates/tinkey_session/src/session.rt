@@ -7,7 +7,6 @@ ghost use Rattle.key_msgs.specs.declared.primitive.Primitive.{Primitive};
 ghost use Rattle.key_msgs.specs.declared.primitive.Primitive.TheVariants.{Stream};
 ghost use Rattle.keyset_model.specs.Keyset.{IsShort, Keys};
 ghost use Rattle.tinkey_cmds.specs.Edits.{Enable, seen_by, seen_edit};
-ghost use Rattle.tinkey_cmds.specs.Laws.{LeavesOthers};
 ghost use Rattle.tinkey_session.specs.Answered.{Serves};
 ghost use Rattle.tinkey_session.specs.Keeping.{Asks, FindsEdit, IsChange, IsChanged, IsKept, IsUnedited, needs, short-prop};
 ghost use Rattle.tinkey_session.specs.Reading.{IsWithin, seen_line};
@@ -35,8 +34,9 @@ pub enum LineFault {
     NoMemory,
 }
 
-/// A keyset, and the handle of its keys that a line needed last. The handle follows each edit, for
-/// which it prepares at most one key; any other line keeps it.
+/// A keyset, and the handle of its keys that a line needed last. An edit changes the keyset in
+/// place and copies none of its records. The handle follows each edit, for which it prepares at
+/// most one key; any other line keeps it.
 ///
 /// A record's URL and value together have at most 2^31 - 256 bytes.
 #[derive(Drop)]
@@ -67,7 +67,7 @@ impl<'m> Session<'m> {
     /// Does what the line asks for, and answers it.
     ///
     /// A line that needs keys makes a handle of them if none for its primitive is kept; while the
-    /// keyset is unchanged, each later line for that primitive uses it. An accepted edit replaces
+    /// keyset is unchanged, each later line for that primitive uses it. An accepted edit changes
     /// the keyset; the handle follows, or is dropped. Any other line, even a refused one, keeps the
     /// keyset. An edit that isn't accepted, for instance because its draw failed, also keeps the
     /// handle.
@@ -211,11 +211,11 @@ impl<'m> Session<'m> {
         ensures table { ⟦<Managers as KeyTable>⟧.table self.new.managers.now
             ≡ ⟦<Managers as KeyTable>⟧.table self.old.managers.now }
     {
-        match apply(alloc, &self.keyset, command, entropy) {
-            Ok(edited) => {
-                let reply = edited_reply(command, &edited);
-                self.replace(alloc, command, edited);
-                Ok(reply)
+        let change = change_of(command, &self.keyset);
+        match apply(alloc, &mut self.keyset, command, entropy) {
+            Ok(()) => {
+                self.follow(alloc, change);
+                Ok(edited_reply(command, &self.keyset))
             }
             Err(CmdError::Refused(fault)) => {
                 let why = Refusal::Command(fault);
@@ -239,25 +239,21 @@ enum Change {
 }
 
 impl<'m> Session<'m> {
-    /// Puts the edited keyset in place, and the handle goes on with it. It is dropped if it can't:
-    /// if an enabled record can't serve, or for want of memory.
-    fn replace(&mut self, alloc: Global, command: &Command<Template>, edited: Keyset)
-        requires kept { IfSome self.old.kept (λ h. IsKept
+    /// Makes the handle one of the keyset, which came of the handle's own by this change. It is
+    /// dropped if it can't follow: if an enabled record can't serve, or for want of memory.
+    fn follow(&mut self, alloc: Global, change: Change)
+        requires changed { (before : Keys) × IsChanged change before.records self.old.keyset.records
+            × IfSome self.old.kept (λ h. IsKept
             (⟦<Managers as KeyTable>⟧.table self.old.managers.now)
-            (⟦<Managers as KeyTable>⟧.table h.managers.now) h.primitive self.old.keyset h.held) }
-        requires short { AllByRecursion IsShort edited.records }
-        requires edited { LeavesOthers self.old.keyset (seen_edit command.now) edited }
-        ensures keyset { self.new.keyset ≡ edited }
+            (⟦<Managers as KeyTable>⟧.table h.managers.now) h.primitive before h.held) }
+        ensures keyset { self.new.keyset ≡ self.old.keyset }
         ensures kept { IfSome self.new.kept (λ h. IsKept
             (⟦<Managers as KeyTable>⟧.table self.new.managers.now)
             (⟦<Managers as KeyTable>⟧.table h.managers.now) h.primitive self.new.keyset h.held) }
         ensures table { ⟦<Managers as KeyTable>⟧.table self.new.managers.now
             ≡ ⟦<Managers as KeyTable>⟧.table self.old.managers.now }
     {
-        let change = change_of(command, &self.keyset);
-        let kept = self.kept.take();
-        self.keyset = edited;
-        if let Some(handle) = kept {
+        if let Some(handle) = self.kept.take() {
             if let Ok(next) = followed(alloc, handle, change, &self.keyset) {
                 self.kept = Some(next);
             }

@@ -4,9 +4,15 @@ use Rattle.tinkey_session.proofs.EditLemmas.{accepted}
 use Rattle.tinkey_session.proofs.FollowLemmas.{accepted_leaves}
 use Rattle.tinkey_session.proofs.session.Session.edit.Goals as goal
 
-pub replace-requires-clause-edited : goal.replace-requires-clause-edited
-replace-requires-clause-edited g c = accepted_leaves _ c.in-Ok.edited (seen_edit c.args.command.now) _ _ c.in-Ok.ensures.step.1
+pub follow-requires : goal.follow-requires
+follow-requires g c = record {
+  changed = (
+    c.args.self.now.keyset,
+    c.change_of-change.ensures _ (accepted_leaves _ _ (seen_edit c.args.command.now) _ _ c.in-Ok.ensures.step.1),
+    c.requires.kept,
+  );
+}
 
 pub returns-in-Ok-clause-unedited : goal.returns-in-Ok-clause-unedited
 returns-in-Ok-clause-unedited g c = λ none.
-    absurd (accepted c.edited_reply-reply.result (seen_edit c.args.command.now) c.in-Ok.edited c.edited_reply-reply.ensures none)
+    absurd (accepted c.edited_reply.result (seen_edit c.args.command.now) _ c.edited_reply.ensures none)
