@@ -21,21 +21,21 @@ use Rattle.key_msgs.specs.declared.primitive.Primitive.TheVariants.{Aead, Daead,
 use Rattle.tinkey_cmds.specs.Edits.{EditOf, seen_by}
 use Rattle.tinkey_cmds.specs.Edits as edits
 use Rattle.tinkey_cmds.specs.declared.command.Command.{Command}
-use Rattle.tinkey_words.specs.declared.words.Request.{Request}
-use Rattle.tinkey_words.specs.declared.words.Request.TheVariants as asks
-use Rattle.tinkey_words.specs.declared.words.Options.{Options as CodeOptions}
-use Rattle.tinkey_words.specs.declared.words.Place.{Place as CodePlace}
+use Rattle.tinkey_words.specs.declared.words.request.Request.{Request}
+use Rattle.tinkey_words.specs.declared.words.request.Request.TheVariants as asks
+use Rattle.tinkey_words.specs.declared.words.options.Options.{Options as CodeOptions}
+use Rattle.tinkey_words.specs.declared.words.request.Place.{Place as CodePlace}
 use Rattle.tinkey_words.specs.declared.words.range.Range.{Range as CodeRange}
 use Rattle.tinkey_words.specs.declared.words.lock.Master.{Master as CodeMaster}
 use Rattle.tinkey_words.specs.declared.words.lock.NewLock.{NewLock as CodeNewLock}
 use Rattle.tinkey_words.specs.declared.words.lock.NewLock.TheVariants as locks
-use Rattle.tinkey_words.specs.declared.words.Output.{Output as CodeOutput}
-use Rattle.tinkey_words.specs.declared.words.Datum.{Datum}
-use Rattle.tinkey_words.specs.declared.words.Datum.TheVariants as data'
-use Rattle.tinkey_words.specs.declared.words.Work.{Work}
-use Rattle.tinkey_words.specs.declared.words.Work.TheVariants as works
-use Rattle.tinkey_words.specs.declared.words.Envelope.{Envelope}
-use Rattle.tinkey_words.specs.declared.words.Envelope.TheVariants as envelopes
+use Rattle.tinkey_words.specs.declared.words.request.Output.{Output as CodeOutput}
+use Rattle.tinkey_words.specs.declared.words.request.Datum.{Datum}
+use Rattle.tinkey_words.specs.declared.words.request.Datum.TheVariants as data'
+use Rattle.tinkey_words.specs.declared.words.request.Work.{Work}
+use Rattle.tinkey_words.specs.declared.words.request.Work.TheVariants as works
+use Rattle.tinkey_words.specs.declared.words.request.Envelope.{Envelope}
+use Rattle.tinkey_words.specs.declared.words.request.Envelope.TheVariants as envelopes
 use Rattle.tinkey_words.specs.declared.words.help.First.{First}
 use Rattle.tinkey_words.specs.declared.words.help.First.TheVariants as firsts
 use Rattle.tinkey_words.specs.declared.words.help.Topic.{Topic}

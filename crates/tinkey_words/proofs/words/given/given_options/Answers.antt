@@ -1,6 +1,6 @@
 use Rattle.std.proofs.Common.{string_bytes}
 use Rattle.tinkey_words.proofs.WordLemmas.{fails_at, goes_on}
-use Rattle.tinkey_words.proofs.words.given_options.Goals as goal
+use Rattle.tinkey_words.proofs.words.given.given_options.Goals as goal
 
 pub returns-in-Err : goal.returns-in-Err
 returns-in-Err c =

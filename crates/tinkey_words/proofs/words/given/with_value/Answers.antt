@@ -3,7 +3,7 @@ use Rattle.tinkey_words.specs.declared.words.rows.Form.{Form}
 use Rattle.tinkey_words.specs.Names.{form_for}
 use Rattle.tinkey_words.specs.Rows.{is_value}
 use Rattle.tinkey_words.proofs.WordLemmas.{value_put}
-use Rattle.tinkey_words.proofs.words.with_value.Goals as goal
+use Rattle.tinkey_words.proofs.words.given.with_value.Goals as goal
 
 pub returns : goal.returns
 returns c =

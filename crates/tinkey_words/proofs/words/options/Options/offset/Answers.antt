@@ -1,7 +1,7 @@
 use Rattle.std.proofs.Common.{◌∙◌, sym, arith, ◌^◌}
 use Rattle.tink_base.proofs.DecimalLemmas.{below_passes}
 use Rattle.tinkey_words.specs.Rows.{offset_in}
-use Rattle.tinkey_words.proofs.words.Options.offset.Goals as goal
+use Rattle.tinkey_words.proofs.words.options.Options.offset.Goals as goal
 
 pub returns-in-Some-clause-bound : goal.returns-in-Some-clause-bound
 unfolding offset_in
