@@ -137,7 +137,7 @@ impl<'a> DirStore<'a> {
         }
     }
 
-    /// The error as the store tells it. If a call failed, that is counted, and its cause is kept.
+    /// The error as the store reports it. If a call failed, that is counted, and its cause is kept.
     fn refuse(&mut self, error: FileError) -> StoreError
         ensures told { result ≡ stored_error error }
         ensures kept { kept_cause self.new ≡ last_cause (kept_cause self.old) error }

@@ -194,8 +194,8 @@ impl NewName for DirName<'_> {
     }
 }
 
-/// The number drawn. An error is `Other`, which no call of the system gives, so that a missing
-/// device isn't told as a missing folder; unless memory couldn't be allocated.
+/// The number drawn. Unless memory couldn't be allocated, an error is `Other`, which no call of the
+/// system gives, so that a missing device isn't reported as a missing folder.
 fn drawn(number: io::Result<u64>) -> io::Result<u64>
     ensures drawn { IfOk number (λ n. result ≡ Ok n) }
     ensures starved { IfErr number (λ error. error_kind error ≡ ErrorKind.OutOfMemory →

@@ -22,8 +22,8 @@ pub struct OpeningStream {
     keys: StreamKeys,
     ad: Bytes,
     buffer: Buffer,
-    /// The bytes of the buffer that are held: those that came and aren't opened yet. What stands behind
-    /// them counts for nothing.
+    /// How many bytes of the buffer are held: those that came and aren't opened yet. The bytes
+    /// after them are unused.
     held: usize,
     stage: Stage,
 }
@@ -70,15 +70,16 @@ impl OpeningStream {
         }
     }
 
-    /// Takes the next bytes of the stream, of which there may be any number, and writes the plaintext of
-    /// each segment that is settled by them and authenticates in its place: a segment is settled once a
-    /// byte follows it, and no plaintext is written before. How the stream is cut into pieces changes
-    /// neither the plaintext nor the answer.
+    /// Takes the next bytes of the stream, any number of them, and writes the plaintext of each
+    /// segment that they settle and that authenticates in its place. A segment is settled once a
+    /// byte follows it, and no plaintext is written before that. How the stream is cut into pieces
+    /// changes neither the plaintext nor the answer.
     ///
-    /// `StreamFailed` comes exactly where the bytes taken decide it, and so does `TooManySegments`: what
-    /// they release was written then. `WriteFault` comes only where the sink failed: a front of what the
-    /// bytes taken release was written then, and nothing is tried again. `ReadFault` never comes. After an
-    /// error nothing is promised of further calls. No memory is taken.
+    /// `StreamFailed` comes if and only if the bytes taken decide it, and so does
+    /// `TooManySegments`; then what they release was written. `WriteFault` comes only if the sink
+    /// failed: then a prefix of what the bytes taken release was written, and nothing is tried
+    /// again. `ReadFault` never comes. After an error nothing is promised about further calls. No
+    /// memory is taken.
     pub fn update<K: Sink>(&mut self, bytes: &[u8], sink: &mut K) -> Result<(), OpenPumpFault>
         ensures opened { OnOk result
             (Opens self.old self.new bytes.now (K.state sink.old) (K.state sink.new)) }
@@ -111,7 +112,7 @@ impl OpeningStream {
         let n = bytes.len().min(room);
         hold(&mut self.buffer, self.held, &bytes[..n]);
         let keys = self.keys.keys();
-        // after a refusal no key is left, and what comes behind it is refused
+        // after a refusal no key is left, and what comes after it is refused
         let stage = replace(&mut self.stage, Stage::Trying(keys.len()));
         let held = self.held + n;
         match settle(
@@ -134,14 +135,15 @@ impl OpeningStream {
         }
     }
 
-    /// Ends the stream: what is held is opened as its last segment, and behind it nothing may be left.
+    /// Ends the stream: what is held is opened as its last segment, and nothing may be left after
+    /// it.
     ///
-    /// `Ok` says that the stream was whole: each segment has opened in its place, the last one as such, and
-    /// the whole plaintext was written. So a stream that was cut off behind a full segment is none.
-    /// `StreamFailed` comes exactly where the bytes taken are no whole stream; the plaintext of the
-    /// segments before the one that fails was written then. `TooManySegments` comes exactly where the
-    /// stream has too many. `WriteFault` comes only where the sink failed: a front of what the stream
-    /// releases was written then. `ReadFault` never comes. No memory is taken.
+    /// `Ok` means that the stream was whole: each segment has opened in its place, the last one as
+    /// such, and the whole plaintext was written. So a stream that was cut off after a full segment
+    /// isn't whole. `StreamFailed` comes if and only if the bytes taken are no whole stream; then
+    /// the plaintext of the segments before the one that fails was written. `TooManySegments` comes
+    /// if and only if the stream has too many. `WriteFault` comes only if the sink failed: then a
+    /// prefix of what the stream releases was written. `ReadFault` never comes. No memory is taken.
     pub fn finish<K: Sink>(self, sink: &mut K) -> Result<(), OpenPumpFault>
         ensures opened { OnOk result (OpensLast self (K.state sink.old) (K.state sink.new)) }
         ensures fault { IfErr result (λ fault.

@@ -10,8 +10,8 @@ use crate::key::StreamKey;
 use crate::segments::Stream;
 use crate::trying::begins;
 
-/// Whether the first segment opens under the key, of those bytes that the buffer holds. Where it doesn't, the
-/// buffer stays as it was.
+/// Whether the first segment, in the bytes that the buffer holds, opens under the key. If it
+/// doesn't, the buffer is unchanged.
 fn fits(key: &StreamKey, ad: &[u8], buffer: &mut [u8], len: usize) -> bool
     requires sound { IsSound key.now }
     requires within { len ≤ length buffer.old }

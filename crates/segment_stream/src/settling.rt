@@ -28,9 +28,9 @@ pub(crate) enum Stage {
     Under(Stream, u64),
 }
 
-/// Opens what is settled of the bytes that the buffer holds, and writes it. What isn't opened then stands in
-/// front of the buffer: answers the stage, and how many bytes are held. No memory is taken: the buffer's
-/// block stays.
+/// Opens what is settled of the bytes that the buffer holds, and writes it. What isn't opened is
+/// then at the front of the buffer. Returns the stage, and how many bytes are held. No memory is
+/// taken: the buffer's block isn't moved.
 pub(crate) fn settle<K: Sink>(
     keys: &[StreamKey],
     ad: &[u8],
@@ -64,7 +64,7 @@ pub(crate) fn settle<K: Sink>(
     }
 }
 
-/// Opens what is settled where so many keys are known not to open the first segment.
+/// Opens what is settled if so many keys are known not to open the first segment.
 fn settle_first<K: Sink>(
     keys: &[StreamKey],
     ad: &[u8],
@@ -101,7 +101,7 @@ fn settle_first<K: Sink>(
     }
 }
 
-/// Opens what is settled behind the first `start` bytes of those that the buffer holds, under the key chosen.
+/// Opens what is settled after the first `start` bytes that the buffer holds, under the key chosen.
 fn settle_under<K: Sink>(
     mut stream: Stream,
     number: u64,
@@ -165,8 +165,8 @@ pub(crate) fn finish<K: Sink>(
     }
 }
 
-/// Opens a stream of which the buffer holds all bytes, and so many keys are known not to open its first
-/// segment.
+/// Opens a stream of which the buffer holds all bytes, if so many keys are known not to open its
+/// first segment.
 fn finish_first<K: Sink>(
     keys: &[StreamKey],
     ad: &[u8],
@@ -192,7 +192,7 @@ fn finish_first<K: Sink>(
             }
             finish_under(&mut stream, number, buffer, size, held, sink)
         }
-        // where the end was seen each key is decided
+        // once the end was seen each key is decided
         Ok(Stage::Trying(_)) => unreachable!(),
         Err(fault) => Err(fault),
     }

@@ -151,16 +151,17 @@ pub(crate) fn open_any<S: Source, K: Sink>(
     Err(OpenPumpFault::StreamFailed(0))
 }
 
-/// Whether so many bytes, up to the end or not, decide if the first segment opens under a key of this segment
-/// size.
+/// Whether this many bytes, up to the end or not, decide if the first segment opens under a key of
+/// this segment size.
 fn is_settled(len: usize, ended: bool, size: usize) -> bool
     ensures { result ≡ (ended || nat_lt size len) }
 {
     ended || len > size
 }
 
-/// Opens the first segment, of those bytes that the buffer holds, under the first of the keys that opens it,
-/// and writes its plaintext. The keys are tried in their order, up to one that isn't decided.
+/// Opens the first segment, in the bytes that the buffer holds, under the first of the keys that
+/// opens it, and writes its plaintext. The keys are tried in their order, up to one that isn't
+/// decided.
 pub(crate) fn choose<K: Sink>(
     keys: &[StreamKey],
     ad: &[u8],

@@ -208,7 +208,7 @@ fn push_fault(line: &mut ShortText, fault: KeysetFault)
     }
 }
 
-/// Adds the text of a refusal, as a line of a session is told it too, for which there is room.
+/// Adds the text of a refusal, which a line of a session also gets, for which there is room.
 fn push_refusal(line: &mut ShortText, refusal: LineRefusal)
     requires room { length line.old ≤ 16 }
     ensures text { line.new ≡ line.old ++ line_refusal_text refusal }
@@ -228,7 +228,7 @@ fn push_data_key(line: &mut ShortText, rule: Rule)
     line.push_bytes(refusal_text(Refusal::Command(CmdFault::KeyRefused(rule))).as_slice());
 }
 
-/// Adds what is said of the key at this place.
+/// Adds what is reported about the key at this place.
 fn push_key(line: &mut ShortText, i: usize, says: &str)
     requires room { length line.old ≤ 16 }
     requires says_bound { length says.now ≤ 40 }

@@ -28,7 +28,7 @@ pub enum Origin {
 pub enum Begins {
     /// With `{` after white space, as a keyset in JSON does.
     AsJson,
-    /// With the tag of a field that stands first in a keyset, or in an encrypted one.
+    /// With the tag of a field that comes first in a keyset, or in an encrypted one.
     AsBinary,
     /// As neither does.
     Otherwise,
@@ -47,7 +47,7 @@ pub fn begins_of(bytes: &[u8]) -> Begins
     }
 }
 
-/// Whether the byte is the tag of a field that stands first in a keyset, or in an encrypted one.
+/// Whether the byte is the tag of a field that comes first in a keyset, or in an encrypted one.
 fn is_front_tag(first: Option<u8>) -> bool
     ensures { result ≡ is_front_tag first }
 {
@@ -83,7 +83,7 @@ pub(crate) fn missing_line(from: Origin) -> ShortText
     line
 }
 
-/// The second line if nothing more than the file is to be told.
+/// The second line if there is nothing to report but the file.
 pub(crate) fn file_line(from: Origin) -> ShortText
     ensures { result ≡ file_line from }
 {
@@ -94,7 +94,7 @@ pub(crate) fn file_line(from: Origin) -> ShortText
     line
 }
 
-/// The second line if the file is an encrypted keyset, where one in clear is read.
+/// The second line if the file is an encrypted keyset, and one in clear is read.
 pub(crate) fn locked_line(from: Origin) -> ShortText
     ensures { result ≡ locked_line from }
 {
@@ -165,7 +165,7 @@ fn file_text(from: Origin) -> &'static str
     }
 }
 
-/// What an encrypted keyset is, where one in clear is read.
+/// What an encrypted keyset is, if one in clear is read.
 #[tactic(auto, unfolding(crate::specs::Origins::locked_text))]
 fn locked_text(from: Origin) -> &'static str
     ensures text { result.now ≡ locked_text from }

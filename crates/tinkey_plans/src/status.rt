@@ -27,8 +27,8 @@ pub enum Status {
     OpenFailed(Unopened, Sealer),
     /// The master opens no keyset in the text, which is a keyset in clear.
     KeysetInClear,
-    /// It is refused as a line of a session is: for the name of a template, for the first record that can't
-    /// serve, for the length or the edit that is asked for, or because the tag is none of the keyset's keys.
+    /// It is refused as a line of a session is: for the name of a template, the first record that
+    /// can't serve, the length or the edit that was asked for, or because no key made the tag.
     Refused(Refusal),
     /// No key of the keyset has the output prefix in front of the input, and each has one.
     NoKeyOf,
@@ -38,8 +38,9 @@ pub enum Status {
     NoWords,
     /// A word is at fault, or missing if its place is the number of words.
     Usage(Misuse),
-    /// The field whose tag is at this place can't be cut or read. What was read comes from there, and
-    /// begins so; of a place inside an encrypted keyset, nothing is said of how the text around it begins.
+    /// The field whose tag is at this place can't be cut or read. What was read comes from there,
+    /// and begins so; for a place inside an encrypted keyset, how the text around it begins isn't
+    /// known.
     BadProto(usize, Origin, Begins),
     /// The same for a keyset whose bytes are an encrypted keyset.
     ProtoLocked(usize, Origin),
@@ -60,7 +61,7 @@ pub enum Status {
     InMissing(Origin),
     /// The file of the stream is missing.
     StreamMissing,
-    /// The input has more than 16,777,216 bytes, or 16,778,240 where it is to be opened.
+    /// The input has more than 16,777,216 bytes, or 16,778,240 if it is to be opened.
     InputTooLong,
     /// A byte follows 2^32 segments of the stream.
     TooManySegments,
@@ -74,7 +75,7 @@ pub enum Status {
     NoDekManager,
     /// The first rule of its manager that the new data key breaks.
     DekRefused(Rule),
-    /// The range ends behind the plaintext.
+    /// The range ends after the plaintext.
     PastEnd,
     /// A file of the output's name is there.
     OutExists,

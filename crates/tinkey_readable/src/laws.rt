@@ -593,7 +593,7 @@ pub fn envelopes_done()
 
 /// `key-of` is answered Done if and only if the keyset is there, and: for a text or a tag, the
 /// output prefix of one of its records, of any status, is in front of the input, or one of them is
-/// RAW; for an envelope, the same behind the first four bytes; for a stream, each ENABLED record
+/// RAW; for an envelope, the same after the first four bytes; for a stream, each ENABLED record
 /// gives a key for streams, and one of these opens the first segment.
 pub fn key_of_done()
     ensures { KeyOfDone }

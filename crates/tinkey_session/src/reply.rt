@@ -41,7 +41,7 @@ pub enum Refusal {
 pub enum LineRefusal {
     /// It isn't of the grammar of lines.
     BadLine,
-    /// No key opens the bytes. A command tells more of them, so that it has a status of its own for this.
+    /// No key opens the bytes. A command reports more about them, so it has a status of its own.
     OpenFailed,
     /// It is refused as a command is.
     Refused(Refusal),
@@ -170,7 +170,7 @@ fn plain_text(says: &str) -> ShortText
     text
 }
 
-/// What is said of the key at this place.
+/// What is reported about the key at this place.
 fn key_text(i: usize, says: &str) -> ShortText
     requires says_bound { length says.now ≤ 40 }
     ensures text { result ≡ codes "key " ++ (decimal i ++ says.now) }
