@@ -825,7 +825,8 @@ command_text commands.Session =
     ++ codes "       for no bytes\n"
     ++ codes "Gives  one reply for each line, on standard output: ok and what the line gives, or no and\n"
     ++ codes "       the reason, and the session goes on; and then the last keyset in the new file of\n"
-    ++ codes "       --out. Without --out the edits are lost\n"
+    ++ codes "       --out. Without --out, or if the session is killed or fails, its edits are lost, and\n"
+    ++ codes "       what was sealed or tagged under a key that it made never opens or verifies again\n"
     ++ codes_012345678
     ++ codes "  tinkey create-keyset --key-template AES256_GCM --out session.json\n"
     ++ codes "  (echo seal 00 -; echo rotate AES256_GCM) |\n"

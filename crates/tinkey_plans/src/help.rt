@@ -961,7 +961,8 @@ Reads  the keyset, and lines on standard input: seal HEX HEX and dseal HEX HEX (
        for no bytes
 Gives  one reply for each line, on standard output: ok and what the line gives, or no and
        the reason, and the session goes on; and then the last keyset in the new file of
-       --out. Without --out the edits are lost
+       --out. Without --out, or if the session is killed or fails, its edits are lost, and
+       what was sealed or tagged under a key that it made never opens or verifies again
 " codes_012345678 "  tinkey create-keyset --key-template AES256_GCM --out session.json
   (echo seal 00 -; echo rotate AES256_GCM) |
       tinkey session --keyset session.json --out after.json
