@@ -1,8 +1,12 @@
 pub mod Finding
+pub mod Forms
 pub mod FromContents
 pub mod Made
+pub mod ReadBytes
 pub mod ReadingBack
 pub mod ReadingLemmas
+pub mod Sizes
 pub mod TableLemmas
 pub mod Validity
 pub mod WritingLemmas
+pub mod WrittenBytes

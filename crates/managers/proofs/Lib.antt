@@ -1,3 +1,4 @@
 pub mod ListLemmas
 pub mod ReadingLemmas
 pub mod SizeLemmas
+pub mod StandardLemmas

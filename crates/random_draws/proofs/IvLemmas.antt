@@ -1,17 +1,11 @@
 -- The IV of what a line sealed is its slice, and stands in the reply.
 use Rattle.std.proofs.Common.{◌≡◌, ◌∙◌, inl, inr, refl, sym, ap, ℕ, List, [], ◌∷◌, ◌++◌, length, take, drop, Some, None, option_map, arith}
 use Rattle.std.specs.List.{slice_get}
-use Rattle.std.proofs.lemmas.List.{append_assoc, drop_at, length-drop, length-take-le, take_at}
+use Rattle.std.proofs.lemmas.List.{drop_at, length-drop, length-take-le}
 use Rattle.std.proofs.lemmas.Option.{same_Some}
-use Rattle.aead_kinds.specs.CtrHmac.{ctr_hmac_seal, ctr_hmac_tag, ctr_hmac_text}
-use Rattle.aead_kinds.specs.Eax.{eax_seal, eax_tag, eax_text}
-use Rattle.aead_kinds.specs.EncryptThenTag.{sealed_by}
-use Rattle.aead_kinds.specs.Gcm.{gcm_seal, gcm_tag, gcm_text}
-use Rattle.gcm_siv.specs.GcmSiv.{gcm_siv_seal, gcm_siv_tag, gcm_siv_text}
-use Rattle.key_msgs.specs.declared.key.KeyKind.{KeyKind}
-use Rattle.key_msgs.specs.declared.key.KeyKind.TheVariants as kinds
 use Rattle.key_msgs.specs.declared.primitive.Primitive.TheVariants.{Aead}
 use Rattle.keyset_model.specs.Keyset.{Keys}
+use Rattle.managers.proofs.SizeLemmas.{seal_facts}
 use Rattle.managers.specs.Table.{Table}
 use Rattle.managers.specs.Uses.{iv_size, seal_of}
 use Rattle.random_draws.proofs.SessionLemmas.{slices_apart, slices_are_within, turns_have_slices}
@@ -112,32 +106,6 @@ ivs_are_drawn table keys lines random plain ad sealed i t e asks gives =
 
 -- ---- the IV at the front
 
--- the first of three lists stands at the front
-take-front : (n : ℕ) (xs ys zs : List ℕ) → length xs ≡ n → take n (xs ++ ys ++ zs) ≡ xs
-take-front n xs ys zs is = ap (λ (all : List ℕ). take n all) (append_assoc xs ys zs) ∙ take_at xs (ys ++ zs) n is
-
-none-there : (xs : List ℕ) → length xs ≡ 0 → [] ≡ xs
-none-there [] e = refl
-none-there (x ∷ xs) e = absurd (omega (arith, e))
-
--- whatever the key is
-front-seal_of : (key : KeyKind) (iv plain ad : List ℕ) → length iv ≡ iv_size key → take (iv_size key) (seal_of key iv plain ad) ≡ iv
-unfolding gcm_seal eax_seal ctr_hmac_seal gcm_siv_seal sealed_by
-front-seal_of (kinds.AesGcm key) iv plain ad whole = take-front 12 iv (gcm_text key iv plain) (gcm_tag key iv ad (gcm_text key iv plain)) whole
-front-seal_of (kinds.AesEax key size) iv plain ad whole = take-front size iv (eax_text key iv plain) (eax_tag key iv ad (eax_text key iv plain)) whole
-front-seal_of (kinds.AesCtrHmac aes size hash mac tag_size) iv plain ad whole =
-    let text = ctr_hmac_text aes iv plain in take-front size iv text (ctr_hmac_tag hash mac tag_size iv ad text) whole
-front-seal_of (kinds.AesSiv key) iv plain ad whole = none-there iv whole
-front-seal_of (kinds.Hmac key hash tag_size) iv plain ad whole = none-there iv whole
-front-seal_of (kinds.AesCmac key tag_size) iv plain ad whole = none-there iv whole
-front-seal_of (kinds.HkdfPrf key hash salt) iv plain ad whole = none-there iv whole
-front-seal_of (kinds.HmacPrf key hash) iv plain ad whole = none-there iv whole
-front-seal_of (kinds.CmacPrf key) iv plain ad whole = none-there iv whole
-front-seal_of (kinds.GcmStream key segment derived hash) iv plain ad whole = none-there iv whole
-front-seal_of (kinds.CtrStream key segment derived hash mac_hash tag_size) iv plain ad whole = none-there iv whole
-front-seal_of (kinds.AesGcmSiv key) iv plain ad whole =
-    let tag = gcm_siv_tag key iv ad plain in take-front 12 iv (gcm_siv_text key iv tag plain) tag whole
-
 pub ivs_stand_in_replies : IvsStandInReplies
 ivs_stand_in_replies table keys lines random plain ad sealed i r t e asks gives primary =
     let found = ivs_are_drawn table keys lines random plain ad sealed i t e asks gives in
@@ -161,7 +129,7 @@ ivs_stand_in_replies table keys lines random plain ad sealed i r t e asks gives 
         stands = ap (λ x. take iv.size (drop (length front) x)) bytes
             ∙ ap (take iv.size) (drop_at front (seal_of s.key slice plain ad) (length front) refl)
             ∙ ap (λ n. take n (seal_of s.key slice plain ad)) s.size
-            ∙ front-seal_of s.key slice plain ad (whole ∙ s.size);
+            ∙ (seal_facts s.key).front slice plain ad (whole ∙ s.size);
       },
     )
 

@@ -1,17 +1,17 @@
 -- The data keys that templates make: how long their messages are, and what they read as.
-use Rattle.std.proofs.Common.{◌≡◌, ◌∙◌, refl, sym, ap, subst, zero, suc, ℕ, ◌+◌, ◌<◌, ◌≤◌, ◌*◌, ◌^◌, inl, inr, ◌++◌, nat_le, Bool, true, ◌&&◌, List, [], ◌∷◌, length, take, drop, Contains, Some, lit<, arith}
-use Rattle.std.specs.List.{AllByRecursion, list_all}
+use Rattle.std.proofs.Common.{◌≡◌, ◌∙◌, refl, sym, ap, subst, ℕ, ◌+◌, ◌<◌, ◌≤◌, ◌*◌, ◌^◌, inl, inr, ◌++◌, nat_le, Bool, true, ◌&&◌, List, [], ◌∷◌, length, take, drop, Contains, lit<, arith}
 use Rattle.std.proofs.lemmas.Bool.{and_parts}
 use Rattle.std.proofs.lemmas.Bool.Decides.{eqb_tells}
 use Rattle.std.proofs.lemmas.List.{length-append, length-drop, length-take}
 use Rattle.std.proofs.lemmas.Option.{same_Some}
-use Rattle.key_msgs.proofs.Made.{made-within}
+use Rattle.key_msgs.proofs.Made.{is_made, made-within, made_are_numbers}
+use Rattle.key_msgs.proofs.TableLemmas.{each_row, leb-le, made_valid, most_random}
 use Rattle.key_msgs.specs.Contents.{Contents}
-use Rattle.key_msgs.specs.KeyTypes.{aes_ctr_fields, hmac_fields, layout_of, primitive_of_type, url_of_type}
-use Rattle.key_msgs.specs.Keys.{IsValid, contents_of, type_of}
+use Rattle.key_msgs.specs.KeyTypes.{aes_ctr_fields, hmac_fields, layout_of, primitive_of_type}
+use Rattle.key_msgs.specs.Keys.{contents_of, type_of}
 use Rattle.key_msgs.specs.Reading.{key_of}
 use Rattle.key_msgs.specs.Templates.{MadeKeysAreValid, Row, made, made_by, random_by, random_of, templates, type_made}
-use Rattle.key_msgs.specs.Writing.{AreNumbers, KeysReadBack, ListsWithin, mac_contents, plain_written, value_of}
+use Rattle.key_msgs.specs.Writing.{KeysReadBack, ListsWithin, mac_contents, plain_written, value_of}
 use Rattle.key_msgs.specs.declared.key.KeyKind.{KeyKind}
 use Rattle.key_msgs.specs.declared.key.KeyKind.TheVariants as kinds
 use Rattle.key_msgs.specs.declared.key_type.KeyType.{KeyType}
@@ -19,10 +19,8 @@ use Rattle.key_msgs.specs.declared.key_type.KeyType.TheVariants as types
 use Rattle.key_msgs.specs.declared.primitive.Primitive.TheVariants.{Aead}
 use Rattle.key_msgs.specs.declared.template.Recipe.{Recipe}
 use Rattle.key_msgs.specs.declared.template.Recipe.TheVariants.{Gcm, Eax, CtrHmac, Siv, Hmac, Cmac, HkdfPrf, HmacPrf, CmacPrf, GcmStream, CtrStream, GcmSiv}
-use Rattle.managers.specs.Schemes as schemes
-use Rattle.managers.specs.Schemes.{Scheme, key_under, type_under}
-use Rattle.managers.specs.Standard.{standard_table}
-use Rattle.managers.specs.Table.{scheme_at}
+use Rattle.managers.proofs.StandardLemmas.{has_scheme}
+use Rattle.managers.specs.Schemes.{Scheme, type_under}
 use Rattle.proto_wire.proofs.Writing.{varint_of-last}
 use Rattle.proto_wire.specs.Written.{content, message, uint32, written, written_all}
 use Rattle.tink_base.specs.declared.hash.Hash.TheVariants.{Sha256}
@@ -33,16 +31,6 @@ use Rattle.seal_wrap.specs.EnvelopeLaws.{DataKeysAreServed, DataKeysAreValid, Is
 
 -- ---- the rows of the table
 
--- what is contained has what each has
-each-contains : {A : Type 0} (P : A → Type 0) (xs : List A) (x : A) → AllByRecursion P xs → Contains xs x → P x
-each-contains P [] x h c = absurd (omega (arith, c.1))
-each-contains P (y ∷ ys) x h (zero, within, is) = subst P is h.0
-each-contains P (y ∷ ys) x h (suc k, within, is) = each-contains P ys x h.1 (k, omega arith, is)
-
-all_each : {A : Type 0} (test : A → Bool) (xs : List A) → list_all test xs ≡ true → AllByRecursion (λ x. test x ≡ true) xs
-all_each test [] e = tt
-all_each test (x ∷ xs) e = let both = and_parts (test x) (list_all test xs) e in (both.0, all_each test xs both.1)
-
 -- a recipe of an AEAD has one of these sizes
 abbrev is_known : Recipe → Bool
 is_known (Gcm size) = nat_le size 32
@@ -52,18 +40,12 @@ is_known (GcmSiv size) = nat_le size 32
 is_known recipe = nat_le (random_by recipe) 64
 
 known : (row : Row) → Contains templates row → is_known row.recipe ≡ true
-known row is = each-contains (λ (x : Row). is_known x.recipe ≡ true) templates row (all_each (λ (x : Row). is_known x.recipe) templates refl) is
-
-leb-le : (a b : ℕ) → nat_le a b ≡ true → a ≤ b
-leb-le a b e = grind arith
-
-pub few_random : (row : Row) → Contains templates row → random_of row ≤ 64
-few_random row is = leb-le _ _ (each-contains (λ (x : Row). nat_le (random_of x) 64 ≡ true) templates row (all_each (λ (x : Row). nat_le (random_of x) 64) templates refl) is)
+known row is = each_row (λ (x : Row). is_known x.recipe) refl row is
 
 -- a made key's lists have few bytes
 pub lists-made : (row : Row) (random : List ℕ) (key : KeyKind) → Contains templates row → length random ≡ random_of row → key ≡ made row random → ListsWithin (2 ^ 30) (contents_of key)
 lists-made row random key is whole same =
-    let few : length random ≤ 2 ^ 30 = omega (arith, few_random row is, whole) in
+    let few : length random ≤ 2 ^ 30 = omega (arith, most_random row is, whole) in
     subst (λ (k : KeyKind). ListsWithin (2 ^ 30) (contents_of k)) (sym same) (made-within (2 ^ 30) row.recipe random few)
 
 -- ---- how long the message is
@@ -167,67 +149,15 @@ message-long scheme row old new value key is made = omega (arith, ap length made
 
 -- ---- under the standard table
 
-served : (type : KeyType) → primitive_of_type type ≡ Aead → (scheme : Scheme) × (scheme_at standard_table Aead (url_of_type type) ≡ Some scheme) × (type_under scheme ≡ type)
-served types.AesGcm aead = (schemes.Gcm, refl, refl)
-served types.AesEax aead = (schemes.Eax, refl, refl)
-served types.AesCtrHmac aead = (schemes.CtrHmac, refl, refl)
-served types.AesGcmSiv aead = (schemes.GcmSiv, refl, refl)
-served types.AesSiv aead = absurd cc
-served types.Hmac aead = absurd cc
-served types.AesCmac aead = absurd cc
-served types.HkdfPrf aead = absurd cc
-served types.HmacPrf aead = absurd cc
-served types.CmacPrf aead = absurd cc
-served types.GcmStream aead = absurd cc
-served types.CtrStream aead = absurd cc
-
 pub data_keys_are_served : DataKeysAreServed
-data_keys_are_served row aead = served (type_made row) aead
-
-same_type : (recipe : Recipe) (random : List ℕ) → type_of (made_by recipe random) ≡ type_of (made_by recipe [])
-same_type (Gcm size) random = refl
-same_type (Eax size) random = refl
-same_type (CtrHmac size tag) random = refl
-same_type Siv random = refl
-same_type (Hmac size hash tag) random = refl
-same_type Cmac random = refl
-same_type HkdfPrf random = refl
-same_type (HmacPrf size hash) random = refl
-same_type CmacPrf random = refl
-same_type (GcmStream size segment) random = refl
-same_type (CtrStream size segment) random = refl
-same_type (GcmSiv size) random = refl
-
-numbers : (recipe : Recipe) (random : List ℕ) → is_known recipe ≡ true → primitive_of_type (type_of (made_by recipe [])) ≡ Aead → AreNumbers (contents_of (made_by recipe random))
-numbers (Gcm size) random known aead = record { version = lit< tt; iv_size = lit< tt; segment = lit< tt; derived = lit< tt; hash = lit< tt; tag_size = lit< tt; mac_hash = lit< tt; mac_tag_size = lit< tt }
-numbers (Eax size) random known aead = record { version = lit< tt; iv_size = lit< tt; segment = lit< tt; derived = lit< tt; hash = lit< tt; tag_size = lit< tt; mac_hash = lit< tt; mac_tag_size = lit< tt }
-numbers (CtrHmac size tag) random known aead = record {
-  version = lit< tt;
-  iv_size = lit< tt;
-  segment = lit< tt;
-  derived = lit< tt;
-  hash = lit< tt;
-  tag_size = lit< tt;
-  mac_hash = lit< tt;
-  mac_tag_size = omega (arith, leb-le tag 32 (and_parts (nat_le size 32) (nat_le tag 32) known).1);
-}
-numbers (GcmSiv size) random known aead = record { version = lit< tt; iv_size = lit< tt; segment = lit< tt; derived = lit< tt; hash = lit< tt; tag_size = lit< tt; mac_hash = lit< tt; mac_tag_size = lit< tt }
-numbers Siv random known aead = absurd cc
-numbers (Hmac size hash tag) random known aead = absurd cc
-numbers Cmac random known aead = absurd cc
-numbers HkdfPrf random known aead = absurd cc
-numbers (HmacPrf size hash) random known aead = absurd cc
-numbers CmacPrf random known aead = absurd cc
-numbers (GcmStream size segment) random known aead = absurd cc
-numbers (CtrStream size segment) random known aead = absurd cc
+data_keys_are_served row aead = let own = has_scheme Aead (type_made row) refl aead in (own.scheme, own.at, own.under)
 
 pub data_keys_are_valid : MadeKeysAreValid → KeysReadBack → DataKeysAreValid
 data_keys_are_valid valid back row scheme random is at whole =
     let served' = data_keys_are_served row is.aead in
     let key : KeyKind = made row random in
     let same : type_under scheme ≡ type_of key
-    = ap type_under (same_Some _ _ (sym at ∙ served'.1)) ∙ served'.2 ∙ sym (same_type row.recipe random) in
-    let few : length random ≤ 2 ^ 31 = omega (arith, few_random row is.known, whole) in
+    = ap type_under (same_Some _ _ (sym at ∙ served'.1)) ∙ served'.2 ∙ sym (is_made row.recipe random).type in
+    let few : length random ≤ 2 ^ 31 = omega (arith, most_random row is.known, whole) in
     ap (λ (t : KeyType). key_of t (value_of key)) same
-    ∙ back key (each-contains (λ (x : Row). (r : List ℕ) → length r ≡ random_of x → IsValid (made x r)) templates row valid is.known random whole)
-    (numbers row.recipe random (known row is.known) is.aead) (made-within (2 ^ 31) row.recipe random few)
+    ∙ back key (made_valid valid row random is.known whole) (made_are_numbers row random is.known) (made-within (2 ^ 31) row.recipe random few)

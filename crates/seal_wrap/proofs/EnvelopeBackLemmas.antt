@@ -14,7 +14,7 @@ use Rattle.key_msgs.specs.declared.primitive.Primitive.TheVariants.{Aead}
 use Rattle.key_msgs.specs.declared.rule.Rule.{Rule}
 use Rattle.keyset_model.specs.Keyset.{Keys, primary_of}
 use Rattle.keyset_model.specs.declared.record.Record.{Record}
-use Rattle.managers.proofs.SizeLemmas.{iv-short}
+use Rattle.managers.proofs.SizeLemmas.{iv-short, seal_facts}
 use Rattle.managers.specs.Laws.{ReadingIsAdmitted, SealingsOpen}
 use Rattle.managers.specs.Schemes.{Scheme, key_under}
 use Rattle.managers.specs.Table.{Table}
@@ -26,10 +26,10 @@ use Rattle.wrapped_prims.specs.Answers.{Sealed, open_answer, seal_answer, seal_b
 use Rattle.wrapped_prims.specs.Candidates.{prefix_bytes, prefix_of}
 use Rattle.wrapped_prims.specs.Fitness.{key_of_record}
 use Rattle.wrapped_prims.specs.Laws.{GivesKeyFor, SameKeyOpens}
-use Rattle.seal_wrap.specs.Enveloped.{Enveloped, Parts, behind_data_key, behind_length, data_key_of, envelope, envelope_of, in_envelope, open_envelope_of, open_payload, open_under, parts_behind, parts_in, reseal_envelope_of, seal_parts, under_data_key, valid_parts, with_key, with_payload}
+use Rattle.seal_wrap.specs.Enveloped.{Enveloped, Parts, behind_data_key, behind_length, data_key_of, envelope, envelope_of, in_envelope, open_envelope_of, open_payload, open_under, parts_behind, parts_in, seal_parts, under_data_key, valid_parts, with_key, with_payload}
 use Rattle.seal_wrap.specs.EnvelopeLaws.{AreKeysResealed, EnvelopeBack, EnvelopeResealed, EnvelopeUnder, EnvelopesFit, IsAeadScheme, IsDataKeyRow, IsKeyResealed, ResealedFit}
 use Rattle.seal_wrap.proofs.DataKeyLemmas.{data_key-long}
-use Rattle.seal_wrap.proofs.SealedSizes.{IsSealed, length-seal_of, sealed_behind, sealing-long, then_some}
+use Rattle.seal_wrap.proofs.SealedSizes.{IsSealed, sealed_behind, sealing-long, then_some}
 use Rattle.seal_wrap.proofs.WrapLemmas.{map_some}
 
 -- ---- the parts of an envelope
@@ -205,7 +205,7 @@ sealed_envelope law admitted table scheme row t plain ad random left aead under 
       valid = n.valid;
       payload = n.payload.bytes;
       opens = payload_opens law admitted t.keys table scheme row plain ad random t.bytes aead n;
-      short = omega (arith, ap length n.last.bytes, length-seal_of n.key iv plain ad, size, iv-short n.key (admitted scheme (data_key_of row n.first) n.key n.valid).1);
+      short = omega (arith, ap length n.last.bytes, (seal_facts n.key).long iv plain ad, size, iv-short n.key (admitted scheme (data_key_of row n.first) n.key n.valid).1);
       random = n.rest;
       sealed = n.sealed;
       sealing = n.sealing;
@@ -290,7 +290,7 @@ envelopes_fit admitted table scheme row keys plain ad random bytes left known e 
       sealing-long table keys value [] m.rest m.sealed m.sealing,
       data_key-long row m.first known m.whole,
       ap length m.last.bytes,
-      length-seal_of m.key iv plain ad,
+      (seal_facts m.key).long iv plain ad,
       size,
       short,
     )

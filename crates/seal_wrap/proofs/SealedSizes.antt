@@ -3,35 +3,20 @@ use Rattle.std.proofs.Common.{◌≡◌, ◌∙◌, refl, sym, ap, ℕ, ◌+◌,
 use Rattle.std.specs.Int.{to_be_bytes, w32}
 use Rattle.std.specs.Option.{option_and_then, option_map}
 use Rattle.std.proofs.lemmas.Bool.{ltb-false}
-use Rattle.std.proofs.lemmas.List.{length-append, length-take, length-take-le}
+use Rattle.std.proofs.lemmas.List.{length-append, length-take-le}
 use Rattle.std.proofs.lemmas.Option.{same_Some}
-use Rattle.aead_kinds.proofs.CtrHmacLemmas.{ctr_hmac-is_scheme}
-use Rattle.aead_kinds.proofs.EaxLemmas.{eax-is_scheme}
-use Rattle.aead_kinds.proofs.EncryptThenTagLemmas.{length-sealed_by}
-use Rattle.aead_kinds.proofs.GcmLemmas.{length-gcm_seal}
-use Rattle.aead_kinds.specs.CtrHmac.{authenticated, ctr_hmac_seal, ctr_hmac_tag, ctr_hmac_text}
-use Rattle.aead_kinds.specs.Eax.{eax_seal, eax_tag, eax_text}
-use Rattle.aead_kinds.specs.EncryptThenTag.{sealed_by}
-use Rattle.gcm_siv.proofs.GcmSivLemmas.{length-gcm_siv_seal}
 use Rattle.key_msgs.specs.Keys.{IsValid}
 use Rattle.key_msgs.specs.declared.key.KeyKind.{KeyKind}
-use Rattle.key_msgs.specs.declared.key.KeyKind.TheVariants as kinds
 use Rattle.key_msgs.specs.declared.primitive.Primitive.{Primitive}
 use Rattle.key_msgs.specs.declared.primitive.Primitive.TheVariants.{Aead, Daead}
 use Rattle.key_msgs.specs.declared.rule.Rule.{Rule}
 use Rattle.keyset_model.specs.Keyset.{Keys, primary_of}
 use Rattle.keyset_model.specs.declared.record.Record.{Record}
-use Rattle.mac_prf.proofs.HmacLemmas.{length-hmac}
-use Rattle.mac_prf.specs.Hmac.{hmac}
 use Rattle.managers.proofs.ReadingLemmas.{read_of_type}
-use Rattle.managers.proofs.SizeLemmas.{iv-short}
+use Rattle.managers.proofs.SizeLemmas.{dseal_facts, iv-short, seal_facts}
 use Rattle.managers.specs.Schemes.{Scheme, key_under, type_under}
 use Rattle.managers.specs.Table.{Table, scheme_at}
 use Rattle.managers.specs.Uses.{dseal_of, iv_size, seal_of}
-use Rattle.siv_daead.proofs.SivLemmas.{length-siv_seal}
-use Rattle.tink_base.specs.Hash.{hash_size}
-use Rattle.tink_base.specs.declared.hash.Hash.{Hash}
-use Rattle.tink_base.specs.declared.hash.Hash.TheVariants.{Sha1, Sha224, Sha256, Sha384, Sha512}
 use Rattle.wrapped_prims.specs.Answers.{Sealed, dseal_answer, made_by, seal_answer, seal_behind, seal_under}
 use Rattle.wrapped_prims.specs.Candidates.{first_byte, is_raw, prefix_bytes, prefix_of}
 use Rattle.wrapped_prims.specs.Fitness.{key_of_record, read_key}
@@ -54,47 +39,7 @@ read-valid (Some scheme) value key e = by (key_under scheme value) refl e
 pub key-valid : (table : Table) (p : Primitive) (r : Record) (key : KeyKind) → key_of_record table p r ≡ Some key → IsValid key
 key-valid table p r key e = read-valid (scheme_at table p r.url) r.value key e
 
--- ---- a sealing is at most 64 bytes longer than IV and plaintext
-
-digest-small : (hash : Hash) → hash_size hash ≤ 64
-digest-small Sha1 = omega arith
-digest-small Sha224 = omega arith
-digest-small Sha256 = omega arith
-digest-small Sha384 = omega arith
-digest-small Sha512 = omega arith
-
-length-ctr_hmac : (aes : List ℕ) (hash : Hash) (mac : List ℕ) (tag_size : ℕ) (iv plain ad : List ℕ) → length (ctr_hmac_seal aes hash mac tag_size iv plain ad) ≤ length iv + length plain + 64
-unfolding ctr_hmac_seal sealed_by ctr_hmac_tag
-length-ctr_hmac aes hash mac tag_size iv plain ad =
-    let text : List ℕ = ctr_hmac_text aes iv plain in
-    let whole : List ℕ = hmac hash mac (authenticated iv ad text) in
-    omega (
-      arith,
-      digest-small hash,
-      length-hmac hash mac (authenticated iv ad text),
-      (ctr_hmac-is_scheme aes Sha1 mac 1 (omega arith) (omega arith)).long iv plain,
-      length-append iv text,
-      length-append (iv ++ text) (take tag_size whole),
-      length-take tag_size whole,
-    )
-
-pub length-eax : (key iv plain ad : List ℕ) → length (eax_seal key iv plain ad) ≡ length iv + length plain + 16
-unfolding eax_seal
-length-eax key iv plain ad = length-sealed_by (eax_text key) (eax_tag key) 16 iv plain ad (eax-is_scheme key)
-
-pub length-seal_of : (key : KeyKind) (iv plain ad : List ℕ) → length (seal_of key iv plain ad) ≤ length iv + length plain + 64
-length-seal_of (kinds.AesGcm key) iv plain ad = let is = length-gcm_seal key iv plain ad in omega (arith, is)
-length-seal_of (kinds.AesEax key size) iv plain ad = let is = length-eax key iv plain ad in omega (arith, is)
-length-seal_of (kinds.AesCtrHmac aes size hash mac tag_size) iv plain ad = length-ctr_hmac aes hash mac tag_size iv plain ad
-length-seal_of (kinds.AesSiv key) iv plain ad = omega arith
-length-seal_of (kinds.AesGcmSiv key) iv plain ad = let is = length-gcm_siv_seal key iv plain ad in omega (arith, is)
-length-seal_of (kinds.Hmac key hash tag_size) iv plain ad = omega arith
-length-seal_of (kinds.AesCmac key tag_size) iv plain ad = omega arith
-length-seal_of (kinds.HkdfPrf key hash salt) iv plain ad = omega arith
-length-seal_of (kinds.HmacPrf key hash) iv plain ad = omega arith
-length-seal_of (kinds.CmacPrf key) iv plain ad = omega arith
-length-seal_of (kinds.GcmStream key segment derived hash) iv plain ad = omega arith
-length-seal_of (kinds.CtrStream key segment derived hash mac_hash tag_size) iv plain ad = omega arith
+-- ---- a sealing is at most 85 bytes longer
 
 length-prefix : (r : Record) → length (prefix_bytes (prefix_of r)) ≤ 5
 length-prefix r = by (is_raw r)
@@ -135,27 +80,13 @@ sealing-long table keys plain ad random s e =
       arith,
       ap length sealing.bytes,
       length-append (prefix_bytes (prefix_of r)) (seal_of key iv plain ad),
-      length-seal_of key iv plain ad,
+      (seal_facts key).long iv plain ad,
       length-take-le (iv_size key) random sealing.enough,
       iv-short key (key-valid table Aead r key second.1),
       length-prefix r,
     )
 
 -- ---- without an IV
-
-length-dseal_of : (key : KeyKind) (plain ad : List ℕ) → length (dseal_of key plain ad) ≤ length plain + 16
-length-dseal_of (kinds.AesGcm key) plain ad = omega arith
-length-dseal_of (kinds.AesEax key size) plain ad = omega arith
-length-dseal_of (kinds.AesCtrHmac aes size hash mac tag_size) plain ad = omega arith
-length-dseal_of (kinds.AesSiv key) plain ad = let is = length-siv_seal key plain ad in omega (arith, is)
-length-dseal_of (kinds.AesGcmSiv key) plain ad = omega arith
-length-dseal_of (kinds.Hmac key hash tag_size) plain ad = omega arith
-length-dseal_of (kinds.AesCmac key tag_size) plain ad = omega arith
-length-dseal_of (kinds.HkdfPrf key hash salt) plain ad = omega arith
-length-dseal_of (kinds.HmacPrf key hash) plain ad = omega arith
-length-dseal_of (kinds.CmacPrf key) plain ad = omega arith
-length-dseal_of (kinds.GcmStream key segment derived hash) plain ad = omega arith
-length-dseal_of (kinds.CtrStream key segment derived hash mac_hash tag_size) plain ad = omega arith
 
 dsealed_under : (table : Table) (r : Record) (plain ad bytes : List ℕ) (key : Option KeyKind) → option_map (λ key. prefix_bytes (prefix_of r) ++ dseal_of key plain ad) key ≡ Some bytes
     → length bytes ≤ length plain + 21
@@ -165,7 +96,7 @@ dsealed_under table r plain ad bytes (Some key) e =
       arith,
       ap length (same_Some _ _ e),
       length-append (prefix_bytes (prefix_of r)) (dseal_of key plain ad),
-      length-dseal_of key plain ad,
+      (dseal_facts key).long plain ad,
       length-prefix r,
     )
 

@@ -37,12 +37,6 @@ contains-among [] x a = absurd a
 contains-among (y ∷ ys) x (inl e) = (0, omega arith, e)
 contains-among (y ∷ ys) x (inr a) = let c = contains-among ys x a in (suc c.0, omega (arith, c.1), c.2)
 
--- what is contained has what each has
-pub each-contains : {A : Type 0} (P : A → Type 0) (xs : List A) (x : A) → AllByRecursion P xs → Contains xs x → P x
-each-contains P [] x h c = absurd (omega (arith, c.1))
-each-contains P (y ∷ ys) x h (zero, within, is) = subst P is h.0
-each-contains P (y ∷ ys) x h (suc k, within, is) = each-contains P ys x h.1 (k, omega arith, is)
-
 pub among-slice_get : {A : Type 0} (xs : List A) (k : ℕ) (x : A) → slice_get xs k ≡ Some x → Among x xs
 among-slice_get [] k x e = absurd (none≢some e)
 among-slice_get (y ∷ ys) zero x e = inl (same_Some _ _ e)

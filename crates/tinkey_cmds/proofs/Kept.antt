@@ -4,25 +4,26 @@ use Rattle.std.specs.List.{AllByRecursion, list_all, list_any}
 use Rattle.std.proofs.lemmas.Str.{is_utf8-from_IsUtf8, IsUtf8-from_ascii}
 use Rattle.std.specs.Str.{is_utf8, IsAscii}
 use Rattle.std.proofs.lemmas.Bool.{true≢false, false_from_ne_true, and_parts, and_from, or_left, ltb-true}
+use Rattle.key_msgs.proofs.Sizes.{length-made, length-url}
+use Rattle.key_msgs.proofs.TableLemmas.{each_row, most_random}
 use Rattle.key_msgs.specs.KeyTypes.{url_of_type}
-use Rattle.key_msgs.specs.Templates.{Row, templates, random_of, type_made}
+use Rattle.key_msgs.specs.Templates.{Row, random_of, type_made}
 use Rattle.keyset_model.specs.declared.record.Record.{Record}
 use Rattle.keyset_model.specs.Keyset.{Keys, IsShort, has_id, has_status, has_prefix, has_material, has_key_data, is_enabled, is_destroyed, is_in, is_primary}
 use Rattle.keyset_model.specs.Writing.{HasWireBounds}
 use Rattle.tinkey_cmds.specs.Edits.{Edit, named, changed, with_status, destroyed, with_records, added, rotated, alone, record_of, step, first}
 use Rattle.tinkey_cmds.specs.Laws.{IsTemplate, HasTemplate, IsFree, Comes, stayed, was_destroyed, is_new, Follows, HasPrimary, EditsKeepKeysets, FirstsAreKeysets, EditsKeepBounds, FirstsHaveBounds, EditsFollow, EditsKeepThePrimary}
-use Rattle.tinkey_cmds.proofs.Lists.{each-append, all_each}
-use Rattle.tinkey_cmds.proofs.Among.{among-all, all-among, among-any, find-among, contains-among, each-contains}
+use Rattle.tinkey_cmds.proofs.Lists.{each-append}
+use Rattle.tinkey_cmds.proofs.Among.{among-all, all-among, among-any, find-among, contains-among}
 use Rattle.keyset_model.proofs.WellFormedLemmas.{Lone}
 use Rattle.tinkey_cmds.proofs.WellFormed.{IsFine, IsGood, good-keyset, keyset-good}
 use Rattle.tinkey_cmds.proofs.Changes.{changed-each, changed-some, changed-lone, length-changed, without-each, without-lone, lone-without, without-any, length-without, lone-push, none-push, any-push_left, any-push_right, length-push, find-id}
 use Rattle.tinkey_cmds.proofs.Cases.{Yields, yielded, IsNew, Seven, edit_case, first_case}
-use Rattle.tinkey_cmds.proofs.Sizes.{length-made, length-url}
 
 -- ---- the rows of the table
 
 known_prefix : (row : Row) → IsTemplate row → (nat_le 1 row.prefix && nat_le row.prefix 4) ≡ true
-known_prefix row is = each-contains (λ x. (nat_le 1 x.prefix && nat_le x.prefix 4) ≡ true) templates row (all_each (λ x. nat_le 1 x.prefix && nat_le x.prefix 4) templates refl) is
+known_prefix row is = each_row (λ x. nat_le 1 x.prefix && nat_le x.prefix 4) refl row is
 
 ascii_each : (bytes : List ℕ) → list_all (λ b. nat_lt b 128) bytes ≡ true → IsAscii bytes
 ascii_each [] small i = lit< tt
@@ -34,21 +35,10 @@ text_ascii : (bytes : List ℕ) → list_all (λ b. nat_lt b 128) bytes ≡ true
 text_ascii bytes small = is_utf8-from_IsUtf8 bytes (IsUtf8-from_ascii bytes (ascii_each bytes small))
 
 text_url : (row : Row) → IsTemplate row → is_utf8 (url_of_type (type_made row)) ≡ true
-text_url row is = text_ascii _ (each-contains (λ x. list_all (λ b. nat_lt b 128) (url_of_type (type_made x)) ≡ true) templates row
-    (all_each (λ x. list_all (λ b. nat_lt b 128) (url_of_type (type_made x))) templates refl) is)
+text_url row is = text_ascii _ (each_row (λ x. list_all (λ b. nat_lt b 128) (url_of_type (type_made x))) refl row is)
 
 some_url : (row : Row) → IsTemplate row → nat_le 1 (length (url_of_type (type_made row))) ≡ true
-some_url row is = each-contains (λ x. nat_le 1 (length (url_of_type (type_made x))) ≡ true) templates row (all_each (λ x. nat_le 1 (length (url_of_type (type_made x)))) templates refl) is
-
-leb-le : (a b : ℕ) → nat_le a b ≡ true → a ≤ b
-leb-le a b e = grind arith
-
--- how many random bytes a template takes
-pub most_random : (row : Row) → IsTemplate row → random_of row ≤ 64
-most_random row is = leb-le _ _ (each-contains (λ x. nat_le (random_of x) 64 ≡ true) templates row (all_each (λ x. nat_le (random_of x) 64) templates refl) is)
-
-pub least_random : (row : Row) → IsTemplate row → 1 ≤ random_of row
-least_random row is = leb-le _ _ (each-contains (λ x. nat_le 1 (random_of x) ≡ true) templates row (all_each (λ x. nat_le 1 (random_of x)) templates refl) is)
+some_url row is = each_row (λ x. nat_le 1 (length (url_of_type (type_made x)))) refl row is
 
 -- URL and message of a made key have few bytes
 pub small_made : (row : Row) (id : ℕ) (random : List ℕ) → IsTemplate row → length random ≡ random_of row

@@ -8,7 +8,6 @@ pub mod Kept
 pub mod Lists
 pub mod Places
 pub mod Refusals
-pub mod Sizes
 pub mod Steps
 pub mod WellFormed
 pub mod Standing

@@ -2,8 +2,7 @@
 use Rattle.std.proofs.lemmas.Option.{same_Some}
 use Rattle.std.specs.Prelude.{is_some, slice_get, drop, zero}
 use Rattle.std.proofs.Common.{◌≡◌, ◌∙◌, sym, ℕ, suc, ◌+◌, Bool, true, false, List, [], ◌∷◌, ◌++◌, length, position, Option, Some, None, refl, ap, arith, add-one, ◌<◌}
-use Rattle.std.specs.List.{list_any, list_all, AllByRecursion}
-use Rattle.std.proofs.lemmas.Bool.{and_parts}
+use Rattle.std.specs.List.{list_any, AllByRecursion}
 use Rattle.keyset_model.proofs.WellFormedLemmas.{any-position, position-none}
 
 pub none≢some : {A : Type 0} {x : A} → None ≡ Some x → ⊥
@@ -13,10 +12,6 @@ pub some≢none : {A : Type 0} {x : A} → Some x ≡ None → ⊥
 some≢none e = grind arith
 
 -- ---- tests
-
-pub all_each : {A : Type 0} (p : A → Bool) (xs : List A) → list_all p xs ≡ true → AllByRecursion (λ x. p x ≡ true) xs
-all_each p [] e = tt
-all_each p (x ∷ xs) e = let parts = and_parts _ _ e in (parts.0, all_each p xs parts.1)
 
 pub each-append : {A : Type 0} (P : A → Type 0) (xs ys : List A) → AllByRecursion P xs → AllByRecursion P ys → AllByRecursion P (xs ++ ys)
 each-append P [] ys h k = k

@@ -19,7 +19,8 @@ use Rattle.managers.specs.Table.{Table}
 use Rattle.managers.specs.Uses.{iv_size, seal_of}
 use Rattle.mac_prf.proofs.HmacLemmas.{length-hmac}
 use Rattle.mac_prf.specs.Hmac.{hmac}
-use Rattle.seal_wrap.proofs.SealedSizes.{length-eax, sealed_behind, then_some}
+use Rattle.managers.proofs.SizeLemmas.{length-eax}
+use Rattle.seal_wrap.proofs.SealedSizes.{sealed_behind, then_some}
 use Rattle.seal_wrap.specs.Info.{info_of}
 use Rattle.seal_wrap.specs.Laws.{TextHidesKeys}
 use Rattle.seal_wrap.specs.Wrapped.{Wrapped, wrap_of, wrapped_text, wrapped_with}
@@ -37,7 +38,7 @@ use Rattle.tinkey_plans.specs.Steps.{puts}
 use Rattle.tinkey_plans.specs.Wrapping.{is_json}
 use Rattle.tinkey_plans.specs.declared.status.Status.TheVariants as status
 use Rattle.tinkey_words.specs.declared.words.rows.Format.{Format}
-use Rattle.tinkey_words.specs.Words.{Asked, AskedEdit, Lock, Master, Place, as_taken, convert_keyset, create_keyset, edit_keyset, session, under}
+use Rattle.tinkey_words.specs.Words.{Asked, AskedEdit, Lock, Master, Place, as_taken, convert_keyset, create_keyset, edit_keyset, under}
 use Rattle.tinkey_readable.specs.LockedHiding.{LockedRunsPut, LockedSessionsSave, Makes, PutsAlone, PutsSealed, SealedAlike, SealedPut, ShowsInfoAlone}
 use Rattle.tinkey_readable.specs.Lying.{FitsThere, OpensLock}
 use Rattle.tinkey_readable.specs.Runs.{IsFree}

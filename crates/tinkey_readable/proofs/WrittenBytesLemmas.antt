@@ -14,7 +14,7 @@ use Rattle.keyset_model.specs.WellFormed.{HasData, IsWellFormed}
 use Rattle.keyset_model.specs.Writing.{binary_of, data_entries, data_written, key_entry, record_entries, record_written}
 use Rattle.keyset_model.proofs.WritingLemmas.{length-data, length-record}
 use Rattle.tinkey_session.specs.HeldLaws.{AreBytes, AreStored, IsStored}
-use Rattle.tinkey_session.proofs.StoredLemmas.{IsPlain, bytes-all}
+use Rattle.key_msgs.proofs.WrittenBytes.{IsPlain, bytes-all}
 use Rattle.tinkey_words.specs.declared.words.rows.Format.{Format}
 use Rattle.tinkey_words.specs.declared.words.rows.Format.TheVariants as formats
 use Rattle.tinkey_plans.specs.Steps.{written_in}

@@ -1,5 +1,5 @@
 -- The names of the templates, written one after another.
-use Rattle.std.proofs.Common.{◌≡◌, refl, sym, ap, ◌∙◌, ℕ, ◌+◌, List, [], ◌∷◌, ◌++◌, drop, Some, None, Option, option_map, append_assoc, append-nil, length-append, subst, ◌≤◌, arith, inl, inr}
+use Rattle.std.proofs.Common.{◌≡◌, refl, sym, ap, ◌∙◌, ℕ, ◌+◌, List, [], ◌∷◌, ◌++◌, drop, Some, None, Option, option_map, append_assoc, append-nil, length, length-append, subst, ◌≤◌, arith, inl, inr}
 use Rattle.std.specs.Prelude.{Bool, true, false, cond, filter, if◌then◌else◌, slice_get, codes}
 use Rattle.std.specs.List.{flat_map}
 use Rattle.tink_spec.specs.Outside.{SinkState, Took, TookPrefix}
@@ -71,13 +71,13 @@ ends_in_name primitive old mid new i template t is row names front =
     prefix_later old mid new names.written (line_for primitive (seen template)) (flat_map (line_for primitive) (drop (i + 1) templates)) (template_names primitive) names.took front (ap (λ (rest : List ℕ). names.written ++ rest) (sym (names_from primitive i template t is row)) ∙ names.whole)
 
 -- behind the last row
-pub all_names : (primitive : Option Primitive) (old new : SinkState) (i : ℕ) → HasNames primitive old new i → 36 ≤ i → Took old new (template_names primitive)
+pub all_names : (primitive : Option Primitive) (old new : SinkState) (i : ℕ) → HasNames primitive old new i → length templates ≤ i → Took old new (template_names primitive)
 all_names primitive old new i names past = subst (Took old new) (sym (append-nil names.written) ∙ ap (λ (rest : List ℕ). names.written ++ rest) (sym none) ∙ names.whole) names.took
   where
     none : flat_map (line_for primitive) (drop i templates) ≡ []
     none = ap (flat_map (line_for primitive)) (nil_from_length (drop i templates) (omega (arith, length-drop i templates, past)))
 
--- there are 36 rows
+-- there are no more rows
 pub no_more : (primitive : Option Primitive) (old new : SinkState) (i : ℕ) (t : Option Template) → t ≡ None → option_map seen t ≡ slice_get templates i → HasNames primitive old new i → HasNames primitive old new (i + 1)
 no_more primitive old new i t is row names = record { written = names.written; took = names.took; whole = ap (λ (rest : List ℕ). names.written ++ rest) (ap (flat_map (line_for primitive)) (same_rows templates i (sym row ∙ ap (option_map seen) is))) ∙ names.whole }
   where

@@ -9,7 +9,7 @@ ghost use Rattle.tinkey_plans.specs.Plan.{writes};
 ghost use Rattle.tinkey_plans.specs.Steps.{Finishes};
 ghost use Rattle.tinkey_run.specs.Lines.{line_for};
 
-use key_msgs::{Primitive, Template, template_at};
+use key_msgs::{Primitive, TEMPLATE_COUNT, Template, template_at};
 use tink_base::{Failed, Sink, write_all};
 use tinkey_plans::Status;
 
@@ -37,7 +37,7 @@ fn write_names<K: Sink>(primitive: Option<Primitive>, sink: &mut K) -> Result<()
     ensures prefix { OnErr result
         (TookPrefix (K.state sink.old) (K.state sink.new) (template_names primitive)) }
 {
-    for row in 0..36 {
+    for row in 0..TEMPLATE_COUNT {
         if let Some(template) = template_at(row) {
             if let Err(failed) = write_line(primitive, template, sink) {
                 return Err(failed);

@@ -4,26 +4,13 @@ use Rattle.std.specs.Int.{to_be_bytes, w32}
 use Rattle.std.proofs.lemmas.Bool.{ltb-false}
 use Rattle.std.proofs.lemmas.List.{length-append, length-drop, length-take}
 use Rattle.std.proofs.lemmas.Option.{same_Some}
-use Rattle.aead_kinds.proofs.CtrHmacLemmas.{ctr_hmac-is_scheme}
-use Rattle.aead_kinds.proofs.EaxLemmas.{eax-is_scheme}
-use Rattle.aead_kinds.proofs.EncryptThenTagLemmas.{length-sealed_by}
-use Rattle.aead_kinds.proofs.GcmLemmas.{length-gcm_seal}
-use Rattle.aead_kinds.specs.CtrHmac.{authenticated, ctr_hmac_seal, ctr_hmac_tag, ctr_hmac_text}
-use Rattle.aead_kinds.specs.Eax.{eax_seal, eax_tag, eax_text}
-use Rattle.aead_kinds.specs.EncryptThenTag.{sealed_by}
-use Rattle.gcm_siv.proofs.GcmSivLemmas.{length-gcm_siv_seal}
 use Rattle.key_msgs.specs.declared.key.KeyKind.{KeyKind}
-use Rattle.key_msgs.specs.declared.key.KeyKind.TheVariants as kinds
 use Rattle.key_msgs.specs.declared.primitive.Primitive.TheVariants.{Aead}
 use Rattle.keyset_model.specs.Keyset.{Keys, fault_of, primary_of}
 use Rattle.keyset_model.specs.declared.record.Record.{Record}
-use Rattle.mac_prf.proofs.HmacLemmas.{length-hmac}
-use Rattle.mac_prf.specs.Hmac.{hmac}
+use Rattle.managers.proofs.SizeLemmas.{seal_facts}
 use Rattle.managers.specs.Table.{Table}
 use Rattle.managers.specs.Uses.{iv_size, seal_of}
-use Rattle.tink_base.specs.Hash.{hash_size}
-use Rattle.tink_base.specs.declared.hash.Hash.{Hash}
-use Rattle.tink_base.specs.declared.hash.Hash.TheVariants.{Sha1, Sha224, Sha256, Sha384, Sha512}
 use Rattle.tinkey_session.proofs.Options.{clash, map_some, then_some}
 use Rattle.tinkey_session.proofs.TurnLemmas.{handle_cases}
 use Rattle.tinkey_session.specs.LineLaws.{LinesDrawFew}
@@ -34,45 +21,6 @@ use Rattle.tinkey_session.specs.declared.reply.Reply.TheVariants.{Gives, Refuses
 use Rattle.wrapped_prims.specs.Answers.{Sealed, seal_answer, seal_behind, seal_under}
 use Rattle.wrapped_prims.specs.Candidates.{first_byte, is_raw, prefix_bytes, prefix_of}
 use Rattle.wrapped_prims.specs.Fitness.{key_of_record, unfit}
-
-digest_small : (hash : Hash) → hash_size hash ≤ 64
-digest_small Sha1 = omega arith
-digest_small Sha224 = omega arith
-digest_small Sha256 = omega arith
-digest_small Sha384 = omega arith
-digest_small Sha512 = omega arith
-
-length-ctr_hmac : (aes : List ℕ) (hash : Hash) (mac : List ℕ) (tag_size : ℕ) (iv plain ad : List ℕ) → length (ctr_hmac_seal aes hash mac tag_size iv plain ad) ≤ length iv + length plain + 64
-unfolding ctr_hmac_seal sealed_by ctr_hmac_tag
-length-ctr_hmac aes hash mac tag_size iv plain ad =
-    let text : List ℕ = ctr_hmac_text aes iv plain in
-    let whole : List ℕ = hmac hash mac (authenticated iv ad text) in
-    let small = digest_small hash in
-    let digest = length-hmac hash mac (authenticated iv ad text) in
-    let long = (ctr_hmac-is_scheme aes Sha1 mac 1 (omega arith) (omega arith)).long iv plain in
-    let front = length-append iv text in
-    let all = length-append (iv ++ text) (take tag_size whole) in
-    let tag = length-take tag_size whole in
-    omega (arith, small, digest, long, front, all, tag)
-
-length-eax : (key iv plain ad : List ℕ) → length (eax_seal key iv plain ad) ≡ length iv + length plain + 16
-unfolding eax_seal
-length-eax key iv plain ad = length-sealed_by (eax_text key) (eax_tag key) 16 iv plain ad (eax-is_scheme key)
-
--- a sealing is at most 64 bytes longer than IV and plaintext
-length-seal_of : (key : KeyKind) (iv plain ad : List ℕ) → length (seal_of key iv plain ad) ≤ length iv + length plain + 64
-length-seal_of (kinds.AesGcm key) iv plain ad = let is = length-gcm_seal key iv plain ad in omega (arith, is)
-length-seal_of (kinds.AesEax key size) iv plain ad = let is = length-eax key iv plain ad in omega (arith, is)
-length-seal_of (kinds.AesCtrHmac aes size hash mac tag_size) iv plain ad = length-ctr_hmac aes hash mac tag_size iv plain ad
-length-seal_of (kinds.AesSiv key) iv plain ad = omega arith
-length-seal_of (kinds.Hmac key hash tag_size) iv plain ad = omega arith
-length-seal_of (kinds.AesCmac key tag_size) iv plain ad = omega arith
-length-seal_of (kinds.HkdfPrf key hash salt) iv plain ad = omega arith
-length-seal_of (kinds.HmacPrf key hash) iv plain ad = omega arith
-length-seal_of (kinds.CmacPrf key) iv plain ad = omega arith
-length-seal_of (kinds.GcmStream key segment derived hash) iv plain ad = omega arith
-length-seal_of (kinds.CtrStream key segment derived hash mac_hash tag_size) iv plain ad = omega arith
-length-seal_of (kinds.AesGcmSiv key) iv plain ad = let is = length-gcm_siv_seal key iv plain ad in omega (arith, is)
 
 length-prefix : (r : Record) → length (prefix_bytes (prefix_of r)) ≤ 5
 length-prefix r = by (is_raw r)
@@ -97,7 +45,7 @@ behind_small front plain ad random key s e short few = by (ltb (length random) (
         let bytes = ap (λ x. length x.bytes) is in
         let left = ap (λ x. length x.left) is in
         let both = length-append front (seal_of key iv plain ad) in
-        let body = length-seal_of key iv plain ad in
+        let body = (seal_facts key).long iv plain ad in
         let taken = length-take (iv_size key) random in
         let rest = length-drop (iv_size key) random in
         omega (arith, enough, bytes, left, both, body, taken, rest, short, few)

@@ -19,7 +19,7 @@ use Rattle.managers.specs.Schemes.{Scheme, key_under, type_under}
 use Rattle.managers.specs.Table.{Table, scheme_at}
 use Rattle.managers.specs.Uses.{dseal_of, iv_size, seal_of, tag_of, tagged}
 use Rattle.tinkey_cmds.proofs.Among.{among-all, find-among}
-use Rattle.tinkey_cmds.proofs.Kept.{most_random}
+use Rattle.key_msgs.proofs.TableLemmas.{most_random}
 use Rattle.tinkey_cmds.specs.Draws.{Draw, Drawn, and_then, answered as answers, fill, unless_err}
 use Rattle.tinkey_cmds.specs.Edits.{Edit, EditOf, added, alone, effect_of, grown, id_of, is_taken, new_id, new_record, record_of, refusal_of, rotated, step, unless_refused, with_key}
 use Rattle.tinkey_cmds.specs.Edits as edits

@@ -1,25 +1,14 @@
 -- What edits and sessions keep of stored records: the messages that templates make are bytes.
-use Rattle.std.proofs.Common.{◌≡◌, inl, inr, refl, sym, subst, ℕ, zero, suc, ◌+◌, ◌*◌, ◌/◌, ◌%◌, ◌^◌, ◌<◌, ◌==◌, true, false, cond, ltb, nat_lt, List, [], ◌∷◌, ◌++◌, length, take, drop, Option, Some, None, Result, Ok, Err, arith, lit≤, lit<}
+use Rattle.std.proofs.Common.{◌≡◌, inl, inr, refl, sym, subst, ℕ, zero, suc, ◌+◌, ◌<◌, true, false, cond, ltb, List, [], ◌∷◌, ◌++◌, length, take, drop, Option, Some, None, Result, Ok, Err, lit≤, lit<}
 use Rattle.std.specs.Prelude.{IfOk, slice_index}
 use Rattle.std.specs.List.{AllByRecursion}
 use Rattle.std.specs.Option.{option_and_then}
-use Rattle.std.proofs.lemmas.Bool.{ltb-false, ltb-true}
+use Rattle.std.proofs.lemmas.Bool.{ltb-false}
 use Rattle.std.proofs.lemmas.List.{length-take-le}
 use Rattle.std.proofs.lemmas.List.Elements.{All-drop, All-from_recursion, All-take, recursion_from_All}
 use Rattle.std.proofs.lemmas.Option.{same_Some}
-use Rattle.proto_wire.specs.Written.{Entry, bytes_field, content, groups_of, message, number_field, tag_of, uint32, varint_of, written, written_all}
-use Rattle.key_msgs.proofs.Made.{made-within}
-use Rattle.key_msgs.proofs.WritingLemmas.{length-hmac, length-params, length-plain}
-use Rattle.key_msgs.specs.Contents.{Contents}
-use Rattle.key_msgs.specs.KeyTypes.{aes_ctr_fields, hmac_fields, layout_of}
-use Rattle.key_msgs.specs.Keys.{contents_of, type_of}
-use Rattle.key_msgs.specs.Templates.{Row, made, made_by, random_of}
-use Rattle.key_msgs.specs.Writing.{AreNumbers, ListsWithin, hmac_entries, mac_contents, params_entries, plain_entries, plain_written, value_of, written_by}
-use Rattle.key_msgs.specs.declared.key_type.KeyType.{KeyType}
-use Rattle.key_msgs.specs.declared.key_type.KeyType.TheVariants as types
-use Rattle.key_msgs.specs.declared.layout.Layout.{Layout}
-use Rattle.key_msgs.specs.declared.template.Recipe.{Recipe}
-use Rattle.key_msgs.specs.declared.template.Recipe.TheVariants.{Gcm, Eax, CtrHmac, Siv, Hmac, Cmac, HkdfPrf, HmacPrf, CmacPrf, GcmStream, CtrStream, GcmSiv}
+use Rattle.key_msgs.proofs.WrittenBytes.{bytes-behind, bytes-made}
+use Rattle.key_msgs.specs.Templates.{Row, random_of}
 use Rattle.keyset_model.specs.Keyset.{Keys, has_id}
 use Rattle.keyset_model.specs.Writing.{HasWireBounds}
 use Rattle.keyset_model.specs.declared.record.Record.{Record}
@@ -27,14 +16,13 @@ use Rattle.managers.specs.Table.{Table}
 use Rattle.tinkey_cmds.proofs.Among.{among-all, find-among}
 use Rattle.tinkey_cmds.proofs.Cases.{Seven, edit_case, yielded}
 use Rattle.tinkey_cmds.proofs.Changes.{changed-each, without-each}
-use Rattle.tinkey_cmds.proofs.Kept.{edits_keep_bounds, firsts_have_bounds, most_random}
+use Rattle.tinkey_cmds.proofs.Kept.{edits_keep_bounds, firsts_have_bounds}
 use Rattle.tinkey_cmds.proofs.Lists.{each-append}
 use Rattle.tinkey_cmds.specs.Draws.{Draw, Drawn, and_then, answered, fill, unless_err}
 use Rattle.tinkey_cmds.specs.Edits.{Edit, Add, Rotate, Promote, Enable, Disable, Destroy, Delete, Stepped, added, alone, destroyed, effect_of, first, full_or_mixed, grown, id_of, is_taken, new_id, named, new_record, record_of, refusal_of, rotated, step, unless_refused, with_key, with_status}
 use Rattle.tinkey_cmds.specs.Laws.{HasTemplate, IsTemplate}
 use Rattle.tinkey_cmds.specs.declared.command.CmdFault.{CmdFault}
 use Rattle.tinkey_cmds.specs.declared.command.CmdFault.TheVariants.{IdsExhausted}
-use Rattle.tinkey_session.proofs.MadeLemmas.{made_are_numbers}
 use Rattle.tinkey_session.proofs.DrawLemmas.{lines_draw_fronts}
 use Rattle.tinkey_session.proofs.Options.{clash, map_some}
 use Rattle.tinkey_session.proofs.TurnLemmas.{serve_leaves}
@@ -45,178 +33,17 @@ use Rattle.tinkey_session.specs.Session.{remains}
 
 -- ---- bytes
 
-bytes-append : (xs ys : List ℕ) → AreBytes xs → AreBytes ys → AreBytes (xs ++ ys)
-bytes-append = each-append (λ b. b < 256)
-
 bytes-take : (n : ℕ) (xs : List ℕ) → AreBytes xs → AreBytes (take n xs)
 bytes-take n xs h = recursion_from_All (λ b. b < 256) (take n xs) (All-take (λ b. b < 256) n xs (All-from_recursion (λ b. b < 256) xs h))
 
 bytes-drop : (n : ℕ) (xs : List ℕ) → AreBytes xs → AreBytes (drop n xs)
 bytes-drop n xs h = recursion_from_All (λ b. b < 256) (drop n xs) (All-drop (λ b. b < 256) n xs (All-from_recursion (λ b. b < 256) xs h))
 
-bytes-behind : (xs ys : List ℕ) → AreBytes (xs ++ ys) → AreBytes ys
-bytes-behind [] ys h = h
-bytes-behind (x ∷ xs) ys h = bytes-behind xs ys h.1
-
 -- by their places, as the codings of bytes into text have it
 pub byte_there : (bytes : List ℕ) → AreBytes bytes → (i : ℕ) → slice_index bytes i < 256
 byte_there [] h i = lit< tt
 byte_there (b ∷ bytes) h zero = h.0
 byte_there (b ∷ bytes) h (suc i) = byte_there bytes h.1 i
-
--- ---- fields as they are written
-
--- below this number so many groups have a group behind them
-abbrev bound : ℕ → ℕ
-bound zero = 128
-bound (suc more) = 128 * bound more
-
-bytes-groups : (more value : ℕ) → value < bound more → AreBytes (groups_of more value)
-unfolding groups_of
-bytes-groups zero value below = (omega arith, tt)
-bytes-groups (suc more) value below = elim (nat_lt value 128) as (λ b. nat_lt value 128 ≡ b → AreBytes (cond b (value ∷ []) ((128 + value % 128) ∷ groups_of more (value / 128)))) [
-  | true ↦ λ t. let low = ltb-true _ _ t in (omega arith, tt)
-  | false ↦ λ t. (omega arith, bytes-groups more (value / 128) (omega arith))
-] refl
-
-bytes-varint : (value : ℕ) → value < 2 ^ 64 → AreBytes (varint_of value)
-bytes-varint value below = bytes-groups 9 value (omega arith)
-
-bytes-number : (number value : ℕ) → number < 2 ^ 32 → value < 2 ^ 32 → AreBytes (number_field number value)
-bytes-number number value n v = bytes-append (tag_of number 0) (varint_of value) (bytes-varint (number * 8 + 0) (omega arith)) (bytes-varint value (omega arith))
-
-bytes-field : (number : ℕ) (of : List ℕ) → number < 2 ^ 32 → length of < 2 ^ 64 → AreBytes of → AreBytes (bytes_field number of)
-bytes-field number of n short h = bytes-append (tag_of number 2) (varint_of (length of) ++ of) (bytes-varint (number * 8 + 2) (omega arith))
-    (bytes-append (varint_of (length of)) of (bytes-varint (length of) (omega arith)) h)
-
--- an entry with numbers of 32 bits, and bytes, of which a length of 64 bits tells
-abbrev pub IsPlain : Entry → Type 0
-IsPlain (uint32 number value) = (number < 2 ^ 32) × (value < 2 ^ 32)
-IsPlain (content number of) = (number < 2 ^ 32) × (length of < 2 ^ 64) × AreBytes of
-IsPlain (message number payload) = (number < 2 ^ 32) × (length payload < 2 ^ 64) × AreBytes payload
-
-bytes-written : (entry : Entry) → IsPlain entry → AreBytes (written entry)
-bytes-written (uint32 number value) h = elim (value == 0) as (λ b. AreBytes (cond b [] (number_field number value))) [
-  | true ↦ tt
-  | false ↦ bytes-number number value h.0 h.1
-]
-bytes-written (content number of) h = elim (length of == 0) as (λ b. AreBytes (cond b [] (bytes_field number of))) [
-  | true ↦ tt
-  | false ↦ bytes-field number of h.0 h.1 h.2
-]
-bytes-written (message number payload) h = bytes-field number payload h.0 h.1 h.2
-
-pub bytes-all : (entries : List Entry) → AllByRecursion IsPlain entries → AreBytes (written_all entries)
-bytes-all [] h = tt
-bytes-all (entry ∷ entries) h = bytes-append (written entry) (written_all entries) (bytes-written entry h.0) (bytes-all entries h.1)
-
--- ---- the messages of keys
-
--- contents whose numbers have 32 bits, and whose bytes are bytes, and not many
-record IsWhole (m : Contents) : Type 0 where
-  numbers : AreNumbers m
-  lists : ListsWithin (2 ^ 30) m
-  key : AreBytes m.key
-  salt : AreBytes m.salt
-  mac : AreBytes m.mac
-
-plain_key : (number : ℕ) (m : Contents) → number < 2 ^ 32 → IsWhole m → IsPlain (content number m.key)
-plain_key number m n h = (n, omega (arith, h.lists.key), h.key)
-
-plain_params : (number : ℕ) (layout : Layout) (m : Contents) → number < 2 ^ 32 → IsWhole m → AllByRecursion IsPlain (params_entries layout m) → IsPlain (message number (written_all (params_entries layout m)))
-plain_params number layout m n h each = (n, omega (arith, length-params layout m, h.lists.salt), bytes-all (params_entries layout m) each)
-
-plain_hmac : (m : Contents) → IsWhole m → IsPlain (message 4 (written_all (hmac_entries m)))
-plain_hmac m h = (lit< tt, omega (arith, length-hmac m), bytes-all (hmac_entries m) ((lit< tt, h.numbers.mac_hash), ((lit< tt, h.numbers.mac_tag_size), tt)))
-
-bytes-plain : (layout : Layout) (m : Contents) → AllByRecursion IsPlain (plain_entries layout m) → AreBytes (plain_written layout m)
-unfolding plain_written
-bytes-plain layout m each = bytes-all (plain_entries layout m) each
-
--- the cipher's key, and an HMAC key
-bytes-aes : (m : Contents) → IsWhole m → AreBytes (plain_written aes_ctr_fields m)
-bytes-aes m h = bytes-plain aes_ctr_fields m (plain_params 2 aes_ctr_fields m (lit< tt) h ((lit< tt, h.numbers.iv_size), tt), (plain_key 3 m (lit< tt) h, tt))
-
-bytes-hmac : (m : Contents) → IsWhole m → AreBytes (plain_written hmac_fields m)
-bytes-hmac m h = bytes-plain hmac_fields m (plain_params 2 hmac_fields m (lit< tt) h ((lit< tt, h.numbers.hash), ((lit< tt, h.numbers.tag_size), tt)), (plain_key 3 m (lit< tt) h, tt))
-
--- so is the HMAC key beside a cipher
-whole_mac : (m : Contents) → IsWhole m → IsWhole (mac_contents m)
-whole_mac m h =
-    let none : 0 < 2 ^ 32 = lit< tt in
-    record {
-      numbers = record { version = none; iv_size = none; segment = none; derived = none; hash = h.numbers.mac_hash; tag_size = h.numbers.mac_tag_size; mac_hash = none; mac_tag_size = none };
-      lists = record { key = h.lists.mac; salt = lit≤ tt; mac = lit≤ tt };
-      key = h.mac;
-      salt = tt;
-      mac = tt;
-    }
-
-bytes-ctr_hmac : (m : Contents) → IsWhole m → AreBytes (written_by types.AesCtrHmac m)
-bytes-ctr_hmac m h =
-    let mac = whole_mac m h in
-    bytes-all (message 2 (plain_written aes_ctr_fields m) ∷ message 3 (plain_written hmac_fields (mac_contents m)) ∷ [])
-    ((lit< tt, omega (arith, length-plain aes_ctr_fields m, h.lists.key, h.lists.salt), bytes-aes m h), ((lit< tt, omega (arith, length-plain hmac_fields (mac_contents m), mac.lists.key), bytes-hmac (mac_contents m) mac), tt))
-
-bytes-of_type : (type : KeyType) (m : Contents) → IsWhole m → AreBytes (written_by type m)
-bytes-of_type types.AesGcm m h = bytes-plain (layout_of types.AesGcm) m (plain_key 3 m (lit< tt) h, tt)
-bytes-of_type types.AesEax m h = bytes-plain (layout_of types.AesEax) m
-    (plain_params 2 (layout_of types.AesEax) m (lit< tt) h ((lit< tt, h.numbers.iv_size), tt), (plain_key 3 m (lit< tt) h, tt))
-bytes-of_type types.AesCtrHmac m h = bytes-ctr_hmac m h
-bytes-of_type types.AesSiv m h = bytes-plain (layout_of types.AesSiv) m (plain_key 2 m (lit< tt) h, tt)
-bytes-of_type types.Hmac m h = bytes-hmac m h
-bytes-of_type types.AesCmac m h = bytes-plain (layout_of types.AesCmac) m
-    (plain_key 2 m (lit< tt) h, (plain_params 3 (layout_of types.AesCmac) m (lit< tt) h ((lit< tt, h.numbers.tag_size), tt), tt))
-bytes-of_type types.HkdfPrf m h = bytes-plain (layout_of types.HkdfPrf) m
-    (plain_params 2 (layout_of types.HkdfPrf) m (lit< tt) h ((lit< tt, h.numbers.hash), ((lit< tt, omega (arith, h.lists.salt), h.salt), tt)), (plain_key 3 m (lit< tt) h, tt))
-bytes-of_type types.HmacPrf m h = bytes-plain (layout_of types.HmacPrf) m
-    (plain_params 2 (layout_of types.HmacPrf) m (lit< tt) h ((lit< tt, h.numbers.hash), tt), (plain_key 3 m (lit< tt) h, tt))
-bytes-of_type types.CmacPrf m h = bytes-plain (layout_of types.CmacPrf) m (plain_key 2 m (lit< tt) h, tt)
-bytes-of_type types.GcmStream m h = bytes-plain (layout_of types.GcmStream) m (
-  plain_params 2 (layout_of types.GcmStream) m (lit< tt) h
-      ((lit< tt, h.numbers.segment), ((lit< tt, h.numbers.derived), ((lit< tt, h.numbers.hash), tt))),
-  (plain_key 3 m (lit< tt) h, tt),
-)
-bytes-of_type types.CtrStream m h = bytes-plain (layout_of types.CtrStream) m (
-  plain_params 2 (layout_of types.CtrStream) m (lit< tt) h
-      ((lit< tt, h.numbers.segment), ((lit< tt, h.numbers.derived), ((lit< tt, h.numbers.hash), (plain_hmac m h, tt)))),
-  (plain_key 3 m (lit< tt) h, tt),
-)
-bytes-of_type types.AesGcmSiv m h = bytes-plain (layout_of types.AesGcmSiv) m (plain_key 3 m (lit< tt) h, tt)
-
--- ---- made keys
-
--- the bytes of a key of these contents
-abbrev HasBytes : Contents → Type 0
-HasBytes m = AreBytes m.key × AreBytes m.salt × AreBytes m.mac
-
-made_bytes : (recipe : Recipe) (random : List ℕ) → AreBytes random → HasBytes (contents_of (made_by recipe random))
-made_bytes (Gcm size) random h = (h, tt, tt)
-made_bytes (Eax size) random h = (h, tt, tt)
-made_bytes (CtrHmac size tag) random h = (bytes-take size random h, tt, bytes-drop size random h)
-made_bytes Siv random h = (h, tt, tt)
-made_bytes (Hmac size hash tag) random h = (h, tt, tt)
-made_bytes Cmac random h = (h, tt, tt)
-made_bytes HkdfPrf random h = (h, tt, tt)
-made_bytes (HmacPrf size hash) random h = (h, tt, tt)
-made_bytes CmacPrf random h = (h, tt, tt)
-made_bytes (GcmStream size segment) random h = (h, tt, tt)
-made_bytes (CtrStream size segment) random h = (h, tt, tt)
-made_bytes (GcmSiv size) random h = (h, tt, tt)
-
--- the message of a made key
-bytes-made : (row : Row) (random : List ℕ) → IsTemplate row → length random ≡ random_of row → AreBytes random → AreBytes (value_of (made row random))
-bytes-made row random is size h =
-    let most = most_random row is in
-    let m = contents_of (made row random) in
-    let parts : HasBytes m = made_bytes row.recipe random h in
-    bytes-of_type (type_of (made row random)) m (record {
-      numbers = made_are_numbers row random is;
-      lists = made-within (2 ^ 30) row.recipe random (omega (arith, most, size));
-      key = parts.0;
-      salt = parts.1;
-      mac = parts.2;
-    })
 
 -- ---- what is drawn of bytes
 

@@ -17,7 +17,8 @@ use Rattle.managers.specs.Schemes.{Scheme, key_under, type_under}
 use Rattle.managers.specs.Standard.{standard_table}
 use Rattle.managers.specs.Table.{scheme_at}
 use Rattle.tinkey_session.proofs.Options.{clash, map_some, ok_there}
-use Rattle.tinkey_session.proofs.StandardLemmas.{has_scheme, is_served, scheme_known, url_known}
+use Rattle.managers.proofs.StandardLemmas.{has_scheme, is_served}
+use Rattle.tinkey_session.proofs.StandardLemmas.{scheme_known, url_known}
 use Rattle.tinkey_session.specs.Laws.{IsKeyFor, IsUsable, SoundIsUsable}
 use Rattle.wrapped_prims.proofs.OpenLemmas.{none_here}
 use Rattle.wrapped_prims.specs.Fitness.{Unfit, fault_of_record, first_of_three, key_of_record, or_later, prefix_fault, read_key, reading_of, unfit_from}

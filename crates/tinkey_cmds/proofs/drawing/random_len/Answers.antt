@@ -1,6 +1,6 @@
 -- By the table of templates.
 use Rattle.std.proofs.Common.{◌≤◌, subst, sym}
-use Rattle.tinkey_cmds.proofs.Kept.{least_random, most_random}
+use Rattle.key_msgs.proofs.TableLemmas.{least_random, most_random}
 use Rattle.tinkey_cmds.proofs.drawing.random_len.Goals as goal
 
 pub returns-clause-least : goal.returns-clause-least

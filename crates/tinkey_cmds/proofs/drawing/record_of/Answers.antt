@@ -4,7 +4,8 @@ use Rattle.key_msgs.specs.Keys.{contents_of}
 use Rattle.key_msgs.specs.Templates.{seen}
 use Rattle.key_msgs.specs.Writing.{ListsWithin, value_of}
 use Rattle.key_msgs.proofs.Made.{made-within}
-use Rattle.tinkey_cmds.proofs.Kept.{most_random, sizes_made}
+use Rattle.key_msgs.proofs.TableLemmas.{most_random}
+use Rattle.tinkey_cmds.proofs.Kept.{sizes_made}
 use Rattle.tinkey_cmds.proofs.drawing.record_of.Goals as goal
 
 pub write_key-requires : goal.write_key-requires
