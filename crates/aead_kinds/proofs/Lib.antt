@@ -4,3 +4,6 @@ pub mod CtrHmacLemmas
 pub mod EaxLemmas
 pub mod InPlaceLemmas
 pub mod AeadLemmas
+pub mod PolyvalLemmas
+pub mod GcmSivLemmas
+pub mod BlockLemmas

@@ -3,7 +3,10 @@ pub mod CtrHmac
 pub mod Eax
 pub mod EncryptThenTag
 pub mod Gcm
+pub mod GcmSiv
+pub mod GcmSivLaws
 pub mod GcmState
 pub mod Laws
+pub mod Polyval
 pub mod SchemeState
 pub mod Segment

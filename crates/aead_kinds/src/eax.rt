@@ -10,7 +10,7 @@ ghost use Rattle.aead_kinds.specs.Eax.{eax_tag, eax_text, omac};
 
 use aes_core::Aes;
 use mac_prf::Cmac;
-use mac_prf::blocks::xor;
+use aes_core::blocks::xor;
 
 /// The MAC of the IV: counter mode starts from it, and the tag includes it.
 pub(crate) fn nonce_of(key: &Aes, iv: &[u8]) -> [u8; 16]

@@ -12,7 +12,7 @@ ghost use Rattle.ghash.specs.GhashState.{IsSubkey};
 
 use aes_core::{Aes, CtrKind, KeySize};
 use ghash::{Ghash, HashKey};
-use mac_prf::blocks::same_bytes;
+use aes_core::blocks::same_bytes;
 use std::marker::Model;
 
 // Up to this many bytes of associated data and text GHASH makes no powers of the subkey, so no

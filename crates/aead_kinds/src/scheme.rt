@@ -9,7 +9,7 @@ ghost use Rattle.tink_base.specs.declared.hash.Hash.{Hash};
 use crate::{ctr_hmac, eax};
 use aes_core::{Aes, CtrKind};
 use mac_prf::Hmac;
-use mac_prf::blocks::same_bytes;
+use aes_core::blocks::same_bytes;
 use std::ops::Range;
 use tink_base::NoMemory;
 

@@ -2,9 +2,8 @@
 
 ghost use Rattle.std.specs.Prelude.{◌≡◌, ◌⊎◌, ◌^◌, ◌≤◌, length};
 
-use aead_kinds::Gcm;
 use aes_core::{Aes, CtrKind};
-use gcm_siv::gcm_siv_seal;
+use aead_kinds::{Gcm, gcm_siv_seal};
 use ghash::Ghash;
 use mac_prf::Hmac;
 use std::alloc::Global;

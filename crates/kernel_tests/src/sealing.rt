@@ -2,9 +2,8 @@
 //! again, and refused where it is altered.
 
 use crate::rows::{FRONT, behind_front, changed, refused, with_room};
-use aead_kinds::{AeadKey, open, seal};
 use aes_core::Aes;
-use gcm_siv::{gcm_siv_open, gcm_siv_seal};
+use aead_kinds::{AeadKey, gcm_siv_open, gcm_siv_seal, open, seal};
 use siv_daead::{SivKey, siv_open, siv_seal};
 use std::alloc::Global;
 use std::ops::Range;

@@ -2,4 +2,3 @@ pub mod CmacLemmas
 pub mod HkdfLemmas
 pub mod HmacLemmas
 pub mod ByteLemmas
-pub mod SameLemmas

@@ -6,7 +6,8 @@ ghost use Rattle.aes_core.specs.Counter.{counter_plus, ctr};
 ghost use Rattle.aes_core.specs.declared.counter.CtrKind.TheVariants.{All128};
 ghost use Rattle.mac_prf.specs.Cmac.{cmac, doubled_block, masked};
 
-use crate::blocks::{doubled, padded, xor};
+use crate::blocks::doubled;
+use aes_core::blocks::{padded, xor};
 use aes_core::{Aes, CtrKind};
 
 /// CMAC under one key, of a message that comes in pieces: `under`, an `update` for each piece, and

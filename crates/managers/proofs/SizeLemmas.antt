@@ -15,9 +15,9 @@ use Rattle.aead_kinds.specs.Eax.{eax_open, eax_seal, eax_tag, eax_text}
 use Rattle.aead_kinds.specs.EncryptThenTag.{iv_of, opened_by, sealed_by, tag_of, text_of}
 use Rattle.aead_kinds.specs.Gcm.{gcm_open, gcm_seal, gcm_tag, gcm_text}
 use Rattle.aead_kinds.specs.Laws.{CtrHmacOpensSealings, CtrHmacSealsBytes, EaxOpensSealings, EaxSealsBytes, GcmOpensSealings, GcmSealsBytes}
-use Rattle.gcm_siv.proofs.GcmSivLemmas.{length-gcm_siv_seal, length-gcm_siv_text}
-use Rattle.gcm_siv.specs.GcmSiv.{gcm_siv_open, gcm_siv_seal, gcm_siv_tag, gcm_siv_text, is_authentic, plain_of}
-use Rattle.gcm_siv.specs.Laws.{GcmSivOpensSealings, GcmSivSealsBytes}
+use Rattle.aead_kinds.proofs.GcmSivLemmas.{length-gcm_siv_seal, length-gcm_siv_text}
+use Rattle.aead_kinds.specs.GcmSiv.{gcm_siv_open, gcm_siv_seal, gcm_siv_tag, gcm_siv_text, is_authentic, plain_of}
+use Rattle.aead_kinds.specs.GcmSivLaws.{GcmSivOpensSealings, GcmSivSealsBytes}
 use Rattle.siv_daead.proofs.SivLemmas.{length-siv_seal, length-siv_text}
 use Rattle.siv_daead.specs.Laws.{SivOpensSealings}
 use Rattle.siv_daead.specs.Siv.{siv_open}
@@ -35,7 +35,7 @@ use Rattle.tink_base.specs.declared.hash.Hash.TheVariants.{Sha1, Sha224, Sha256,
 use Rattle.std.proofs.lemmas.Grind.{common_steps}
 use Rattle.key_msgs.specs.Rules.{hash_fits, key_fits, iv_fits, tag_fits, is_either, is_tag_of, is_within}
 use Rattle.key_msgs.specs.declared.rule.Rule.{Rule}
-use Rattle.gcm_siv.specs.GcmSiv as gcm_siv
+use Rattle.aead_kinds.specs.GcmSiv as gcm_siv
 use Rattle.siv_daead.specs.Siv as siv
 use Rattle.key_msgs.specs.declared.key.KeyKind.TheVariants as kinds
 use Rattle.key_msgs.specs.declared.key_type.KeyType.TheVariants as types

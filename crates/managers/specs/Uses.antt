@@ -15,7 +15,7 @@ use Rattle.std.specs.Prelude.{ℕ, ◌*◌, Option, None, Bool, true, false, Lis
 use Rattle.aead_kinds.specs.CtrHmac.{ctr_hmac_open, ctr_hmac_seal}
 use Rattle.aead_kinds.specs.Eax.{eax_open, eax_seal}
 use Rattle.aead_kinds.specs.Gcm.{gcm_open, gcm_seal}
-use Rattle.gcm_siv.specs.GcmSiv.{gcm_siv_open, gcm_siv_seal}
+use Rattle.aead_kinds.specs.GcmSiv.{gcm_siv_open, gcm_siv_seal}
 use Rattle.key_msgs.specs.declared.key.KeyKind.{KeyKind}
 use Rattle.key_msgs.specs.declared.key.KeyKind.TheVariants as kinds
 use Rattle.mac_prf.specs.Cmac.{cmac}

@@ -1,7 +1,7 @@
 //! The manager of authenticated encryption: AES-GCM, EAX, AES-CTR-HMAC and AES-GCM-SIV.
 
 ghost use Rattle.std.specs.Prelude.{◌≡◌, ◌+◌, ◌^◌, ◌≤◌, ◌++◌, drop, length, string_bytes, take, IfOk};
-ghost use Rattle.gcm_siv.specs.GcmSiv.{gcm_siv_seal};
+ghost use Rattle.aead_kinds.specs.GcmSiv.{gcm_siv_seal};
 ghost use Rattle.key_msgs.specs.Keys.{IsValid};
 ghost use Rattle.managers.specs.Schemes.{aead_scheme, type_under};
 ghost use Rattle.managers.specs.Uses.{iv_size, open_key, seal_of};
@@ -9,9 +9,8 @@ ghost use Rattle.tink_spec.specs.InPlace.{OpensTo};
 
 use crate::reading::read_as;
 use crate::{AeadManager, CheckFault, KeyManager, Prepared};
-use aead_kinds::{AeadKey, open, seal};
 use aes_core::Aes;
-use gcm_siv::{gcm_siv_open, gcm_siv_seal};
+use aead_kinds::{AeadKey, gcm_siv_open, gcm_siv_seal, open, seal};
 use key_msgs::{KeyKind, KeyType};
 use std::alloc::Global;
 use std::ops::Range;

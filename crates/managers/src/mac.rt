@@ -10,7 +10,7 @@ use crate::firsts::{write_cmac, write_hmac};
 use crate::reading::read_as;
 use crate::{CheckFault, KeyManager, MacManager, Prepared};
 use key_msgs::{KeyKind, KeyType};
-use mac_prf::blocks::same_bytes;
+use aes_core::blocks::same_bytes;
 use std::alloc::Global;
 use tink_base::{NoMemory, Trials};
 

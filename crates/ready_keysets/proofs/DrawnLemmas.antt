@@ -9,7 +9,7 @@ use Rattle.keyset_model.specs.Keyset.{Keys, primary_of}
 use Rattle.keyset_model.specs.declared.record.Record.{Record}
 use Rattle.managers.specs.Table.{Table}
 use Rattle.managers.specs.Uses.{iv_size, seal_of}
-use Rattle.lookahead.specs.Lent.{Lent, told_lent}
+use Rattle.tink_base.specs.Drawn.{DrawnBytes, told_drawn}
 use Rattle.tink_spec.specs.Outside.{RanShort}
 use Rattle.wrapped_prims.specs.Answers.{Sealed, seal_answer, seal_behind, seal_under}
 use Rattle.wrapped_prims.specs.Candidates.{prefix_bytes, prefix_of}
@@ -20,8 +20,8 @@ use Rattle.ready_keysets.specs.declared.refusal.Refusal.{Refusal}
 use Rattle.wrapped_prims.specs.declared.sealing.SealFault.TheVariants as faults
 
 -- what was drawn of the bytes gives the sealing that they all give
-pub sealed_with : (keys : Keys) (table : Table) (plain ad sealed : List ℕ) (old new : Lent)
-    → IsSealing keys table plain ad (told_lent old) (told_lent new) sealed
+pub sealed_with : (keys : Keys) (table : Table) (plain ad sealed : List ℕ) (old new : DrawnBytes)
+    → IsSealing keys table plain ad (told_drawn old) (told_drawn new) sealed
     → option_map (λ (s : Sealed). s.bytes) (seal_answer keys table plain ad old.left) ≡ Some sealed
 sealed_with keys table plain ad sealed old new made =
     grind (arith, made.answer new.left, made.drew.left)
@@ -40,11 +40,11 @@ none_under table plain ad random (Some r) key is few =
     ap (option_and_then (seal_behind prefix plain ad random)) is ∙ ap by (lt-ltb (length random) n few)
 
 -- where the bytes run short there is no sealing
-pub few_bytes : (keys : Keys) (table : Table) (plain ad : List ℕ) (old new : Lent)
-    → IsSealFault keys table (told_lent old) (told_lent new) faults.EntropyFault
+pub few_bytes : (keys : Keys) (table : Table) (plain ad : List ℕ) (old new : DrawnBytes)
+    → IsSealFault keys table (told_drawn old) (told_drawn new) faults.EntropyFault
     → option_map (λ (s : Sealed). s.bytes) (seal_answer keys table plain ad old.left) ≡ None
 few_bytes keys table plain ad old new fault =
-    let short : RanShort (told_lent old) (told_lent new) (iv_size fault.key) = fault.entropy.1 in
+    let short : RanShort (told_drawn old) (told_drawn new) (iv_size fault.key) = fault.entropy.1 in
     ap (option_map (λ (s : Sealed). s.bytes))
     (none_under table plain ad old.left (primary_of keys) fault.key fault.primary (short.short refl))
 

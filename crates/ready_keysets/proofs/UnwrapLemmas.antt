@@ -6,8 +6,8 @@ use Rattle.key_msgs.specs.declared.primitive.Primitive.{Primitive}
 use Rattle.keyset_model.specs.Keyset.{Keys}
 use Rattle.seal_wrap.specs.Unwrapped as unwrapped
 use Rattle.seal_wrap.specs.Wrapping.{IsRefusal}
-use Rattle.seal_wrap.specs.declared.unwrapping.UnwrapFault.{UnwrapFault}
-use Rattle.seal_wrap.specs.declared.unwrapping.UnwrapFault.TheVariants as faults
+use Rattle.seal_wrap.specs.declared.encrypted.unwrapping.UnwrapFault.{UnwrapFault}
+use Rattle.seal_wrap.specs.declared.encrypted.unwrapping.UnwrapFault.TheVariants as faults
 use Rattle.wrapped_prims.specs.Fitness.{Unfit}
 use Rattle.ready_keysets.specs.Streaming.{IsUnfitForStreams}
 use Rattle.ready_keysets.specs.Unwrapping.{IsLacking, IsNoStreamsInside, IsNotInside, Lack, of_fit, refusal_of}

@@ -18,8 +18,8 @@ use Rattle.keyset_model.specs.declared.keyset.Keyset.{Keyset}
 use Rattle.managers.specs.Standard.{standard_table}
 use Rattle.seal_wrap.specs.Unwrapped.{Fault, InnerWire, Member, NotJson, NotOpened, OuterWire, unwrap_of}
 use Rattle.seal_wrap.specs.Unwrapped as unwrapped
-use Rattle.seal_wrap.specs.declared.unwrapping.UnwrapFault.{UnwrapFault}
-use Rattle.seal_wrap.specs.declared.unwrapping.UnwrapFault.TheVariants as faults
+use Rattle.seal_wrap.specs.declared.encrypted.unwrapping.UnwrapFault.{UnwrapFault}
+use Rattle.seal_wrap.specs.declared.encrypted.unwrapping.UnwrapFault.TheVariants as faults
 use Rattle.wrapped_prims.specs.Fitness.{Unfit, unfit}
 use Rattle.ready_keysets.specs.Streaming.{ReadNoStreams}
 use Rattle.ready_keysets.specs.Tables.{table_of}

@@ -15,11 +15,10 @@ ghost use Rattle.ready_keysets.specs.declared.refusal.Refusal.TheVariants as ref
 use crate::{Refusal, Work};
 use key_msgs::Primitive;
 use keyset_model::Keyset;
-use lookahead::Drawn;
 use managers::{KeyTable, Managers};
 use std::alloc::Global;
 use std::mem::replace;
-use tink_base::Trials;
+use tink_base::{Drawn, Trials};
 use wrapped_prims::{DeriveFault, Handle, HandleFault, HeldKeys, SealFault};
 
 /// The keys of a keyset, checked and prepared under the standard managers of the primitive.

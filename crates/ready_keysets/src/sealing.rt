@@ -8,7 +8,7 @@ ghost use Rattle.ready_keysets.specs.declared.step.StepFault.TheVariants as step
 
 use crate::kept::Kept;
 use crate::{StepFault, StreamKeyset};
-use lookahead::Drawn;
+use tink_base::Drawn;
 use segment_stream::{Sealer, SealerFault, SealingStream, UpdateFault};
 use std::alloc::Global;
 use std::mem::replace;

@@ -10,11 +10,10 @@ ghost use Rattle.tink_spec.specs.Outside.{Drew, RanShort, RoseOnce, Stood};
 ghost use Rattle.real_objects.specs.Device.{device_left, drawn_ahead, held_ahead, told_device, Skips};
 
 use crate::ahead::{Ahead, Device};
-use lookahead::Lookahead;
 use std::fs::{self, File, Metadata};
 use std::io::{self, ErrorKind};
 use std::os::unix::fs::{FileTypeExt, MetadataExt};
-use tink_base::{Entropy, Failed};
+use tink_base::{Entropy, Failed, Lookahead};
 
 /// The device of random bytes.
 const DEVICE: &str = "/dev/urandom";

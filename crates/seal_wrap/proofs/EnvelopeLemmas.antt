@@ -25,8 +25,8 @@ use Rattle.wrapped_prims.specs.declared.sealing.SealFault.TheVariants as seals
 use Rattle.seal_wrap.specs.Enveloped.{Enveloped, before_payload, behind_data_key, data_key_of, envelope, envelope_of, under_data_key}
 use Rattle.seal_wrap.specs.EnvelopeSteps.{IsMakingFault, IsPayloadFault, IsResealing, Makes}
 use Rattle.seal_wrap.specs.Enveloping.{Asks, FailedAtFill, IsEnvelopeFault, IsEnveloping, StoodAtFill}
-use Rattle.seal_wrap.specs.declared.envelope.EnvelopeFault.{EnvelopeFault}
-use Rattle.seal_wrap.specs.declared.envelope.EnvelopeFault.TheVariants as faults
+use Rattle.seal_wrap.specs.declared.envelopes.envelope.EnvelopeFault.{EnvelopeFault}
+use Rattle.seal_wrap.specs.declared.envelopes.envelope.EnvelopeFault.TheVariants as faults
 use Rattle.seal_wrap.proofs.WrapLemmas.{has_sealed}
 
 -- ---- what is taken of the random bytes

@@ -23,7 +23,7 @@ use Rattle.seal_wrap.specs.Info.{info_of, key_info_of, without_key}
 use Rattle.seal_wrap.specs.Laws.{TextHidesKeys}
 use Rattle.seal_wrap.specs.Wrapped.{Wrapped, wrapped_text, wrapped_with}
 use Rattle.seal_wrap.specs.Wrapping.{IsWrapFault, IsWrapping}
-use Rattle.seal_wrap.specs.declared.wrapping.WrapFault.TheVariants as wraps
+use Rattle.seal_wrap.specs.declared.encrypted.wrapping.WrapFault.TheVariants as wraps
 use Rattle.seal_wrap.proofs.SealedSizes.{sealed_behind, sealing-long, then_some}
 
 -- ---- the entropy

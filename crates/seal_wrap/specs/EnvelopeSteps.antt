@@ -17,9 +17,9 @@ use Rattle.wrapped_prims.specs.Sealing.{IsSealing}
 use Rattle.std.specs.Global.{Vec}
 use Rattle.seal_wrap.specs.Enveloped.{Parts, data_key_of, envelope}
 use Rattle.seal_wrap.specs.Enveloping.{MakesDataKey}
-use Rattle.seal_wrap.specs.declared.envelope.EnvelopeKey.{EnvelopeKey}
-use Rattle.seal_wrap.specs.declared.envelope.EnvelopeFault.{EnvelopeFault}
-use Rattle.seal_wrap.specs.declared.envelope.EnvelopeFault.TheVariants as faults
+use Rattle.seal_wrap.specs.declared.envelopes.envelope.EnvelopeKey.{EnvelopeKey}
+use Rattle.seal_wrap.specs.declared.envelopes.envelope.EnvelopeFault.{EnvelopeFault}
+use Rattle.seal_wrap.specs.declared.envelopes.envelope.EnvelopeFault.TheVariants as faults
 
 -- the entropy gave these bytes, as many as were asked for
 pub record DrewWhole (size : ℕ) (old new : EntropyState) (bytes : List ℕ) : Type 0 where

@@ -19,10 +19,10 @@ use Rattle.managers.specs.Uses.{iv_size}
 use Rattle.tink_spec.specs.Outside.{Drew, DrewLosing, EntropyState, Rose, Stood}
 use Rattle.wrapped_prims.specs.Answers.{primary_key}
 use Rattle.seal_wrap.specs.Enveloped.{data_key_of, envelope_of}
-use Rattle.seal_wrap.specs.declared.data_keys.DataKeyFault.{DataKeyFault}
-use Rattle.seal_wrap.specs.declared.data_keys.DataKeyFault.TheVariants as data_keys
-use Rattle.seal_wrap.specs.declared.envelope.EnvelopeFault.{EnvelopeFault}
-use Rattle.seal_wrap.specs.declared.envelope.EnvelopeFault.TheVariants as faults
+use Rattle.seal_wrap.specs.declared.envelopes.data_keys.DataKeyFault.{DataKeyFault}
+use Rattle.seal_wrap.specs.declared.envelopes.data_keys.DataKeyFault.TheVariants as data_keys
+use Rattle.seal_wrap.specs.declared.envelopes.envelope.EnvelopeFault.{EnvelopeFault}
+use Rattle.seal_wrap.specs.declared.envelopes.envelope.EnvelopeFault.TheVariants as faults
 
 -- the template makes keys of AEADs
 abbrev pub IsAead : Row → Type 0

@@ -10,10 +10,10 @@ use Rattle.wrapped_prims.specs.Sealing.{IsSealFault}
 use Rattle.wrapped_prims.specs.declared.sealing.SealFault.{SealFault}
 use Rattle.wrapped_prims.specs.declared.sealing.SealFault.TheVariants as seals
 use Rattle.keyset_model.specs.declared.keyset.Keyset.{Keyset}
-use Rattle.seal_wrap.specs.declared.wrapping.WrapFault.{WrapFault}
-use Rattle.seal_wrap.specs.declared.wrapping.WrapFault.TheVariants as wraps
-use Rattle.seal_wrap.specs.declared.unwrapping.UnwrapFault.{UnwrapFault}
-use Rattle.seal_wrap.specs.declared.unwrapping.UnwrapFault.TheVariants as faults
+use Rattle.seal_wrap.specs.declared.encrypted.wrapping.WrapFault.{WrapFault}
+use Rattle.seal_wrap.specs.declared.encrypted.wrapping.WrapFault.TheVariants as wraps
+use Rattle.seal_wrap.specs.declared.encrypted.unwrapping.UnwrapFault.{UnwrapFault}
+use Rattle.seal_wrap.specs.declared.encrypted.unwrapping.UnwrapFault.TheVariants as faults
 use Rattle.seal_wrap.specs.Wrapped.{wrap_of}
 use Rattle.seal_wrap.specs.Unwrapped.{Refusal, OuterWire, NotJson, Member, NotOpened, InnerWire, Fault}
 

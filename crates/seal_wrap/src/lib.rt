@@ -6,19 +6,14 @@
 //! Envelopes: a plaintext is sealed under a data key of its own, and the data key under a keyset.
 #![tactic(auto)]
 
-mod binary_form;
-mod data_keys;
-mod envelope;
-mod json_form;
+mod encrypted;
+mod envelopes;
 pub mod laws;
-mod unwrapping;
-mod wrapping;
 
-pub use binary_form::is_wrapped_binary;
-pub use data_keys::{DataKeyFault, data_key};
-pub use envelope::{
-    ENVELOPE_ROOM, EnvelopeFault, EnvelopeKey, envelope_key, envelope_open, envelope_reseal,
-    envelope_seal,
+pub use encrypted::{
+    UnwrapFault, WrapFault, encrypted_front, is_wrapped_binary, is_wrapped_json, unwrap_keyset, wrap,
 };
-pub use unwrapping::{UnwrapFault, encrypted_front, is_wrapped_json, unwrap_keyset};
-pub use wrapping::{WrapFault, wrap};
+pub use envelopes::{
+    DataKeyFault, ENVELOPE_ROOM, EnvelopeFault, EnvelopeKey, data_key, envelope_key, envelope_open,
+    envelope_reseal, envelope_seal,
+};

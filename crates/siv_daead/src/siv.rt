@@ -10,7 +10,8 @@ ghost use Rattle.siv_daead.specs.Siv.{first_counter, mac_key, s2v, siv_open, siv
 
 use aes_core::{Aes, CtrKind, KeySize};
 use mac_prf::Cmac;
-use mac_prf::blocks::{doubled, padded, same_bytes, xor};
+use aes_core::blocks::{padded, same_bytes, xor};
+use mac_prf::blocks::doubled;
 use std::marker::Model;
 use std::ops::Range;
 

@@ -8,9 +8,9 @@ use Rattle.aead_kinds.specs.Eax.{eax_open, eax_seal, eax_tag, eax_text, omac}
 use Rattle.aead_kinds.specs.EncryptThenTag.{opened_by, sealed_by}
 use Rattle.aead_kinds.specs.Gcm.{hash_subkey, hashed, gcm_text, gcm_tag, gcm_seal, gcm_open}
 use Rattle.aes_core.specs.Chain.{whole_blocks}
-use Rattle.gcm_siv.specs.GcmSiv.{authentication_key, derived_half, encryption_key, gcm_siv_open, gcm_siv_seal, gcm_siv_tag, gcm_siv_text}
-use Rattle.gcm_siv.specs.GcmSiv as gcm_siv
-use Rattle.gcm_siv.specs.Polyval as polyval
+use Rattle.aead_kinds.specs.GcmSiv.{authentication_key, derived_half, encryption_key, gcm_siv_open, gcm_siv_seal, gcm_siv_tag, gcm_siv_text}
+use Rattle.aead_kinds.specs.GcmSiv as gcm_siv
+use Rattle.aead_kinds.specs.Polyval as polyval
 use Rattle.siv_daead.specs.Siv.{datum_block, mac_text, s2v, siv_text, siv_seal, siv_open}
 use Rattle.sha1.specs.Sha1 as sha1
 use Rattle.sha2.specs.Sha256 as sha256

@@ -3,8 +3,8 @@
 -- definitions alone. OpenSSL, by Python's cryptography, gives the same sealings.
 use Rattle.std.proofs.Common.{◌≡◌, ℕ, Some, None, List, [], ◌∷◌, ◌++◌, take, replicate, refl}
 use Rattle.std.specs.Int.{w128, to_be_bytes}
-use Rattle.gcm_siv.specs.GcmSiv.{authentication_key, encryption_key, gcm_siv_open, gcm_siv_seal}
-use Rattle.gcm_siv.specs.Polyval.{polyval, polyval_by_dot}
+use Rattle.aead_kinds.specs.GcmSiv.{authentication_key, encryption_key, gcm_siv_open, gcm_siv_seal}
+use Rattle.aead_kinds.specs.Polyval.{polyval, polyval_by_dot}
 use Rattle.standard_examples.proofs.OnLiterals.{gcm_siv_on_literals, polyval_on_literals}
 
 -- ---- POLYVAL (appendix A)

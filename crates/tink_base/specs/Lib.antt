@@ -1,4 +1,5 @@
 pub mod Decimal
+pub mod Drawn
 pub mod Hash
 pub mod Memory
 pub mod Numbers

@@ -4,11 +4,14 @@
 //! A trait's ghost `state` says what an object holds and how often it has failed.
 #![tactic(auto)]
 
+mod ahead;
+mod ahead_in_memory;
 mod all;
 mod bytes;
 mod constants;
 mod decimal;
 mod draft_sink;
+mod drawn;
 mod entropy;
 mod faults;
 mod files;
@@ -25,11 +28,13 @@ mod text;
 mod torn;
 mod trials;
 
+pub use ahead::Lookahead;
 pub use all::{ReadAllFault, read_all, read_behind, write_all};
 pub use bytes::Bytes;
 pub use constants::{ASIDE, CRUNCHY, DESTROYED, DISABLED, ENABLED, LEGACY, RAW, TINK};
 pub use decimal::number_in;
 pub use draft_sink::{DraftLoan, DraftSink, Lent, append_all};
+pub use drawn::Drawn;
 pub use entropy::Entropy;
 pub use faults::{Failed, NoMemory};
 pub use files::MemStore;

@@ -11,13 +11,12 @@ ghost use Rattle.tinkey_plans.specs.Status.{Reports};
 ghost use Rattle.tinkey_host.specs.Program.{start_plan, IsStarted};
 
 use key_msgs::KeyType;
-use lookahead::Lookahead;
 use managers::{
     AeadManager, AeadScheme, DaeadManager, KeyList, KeyManager, MacManager, MacScheme, Managers,
     PrfManager, PrfScheme, SameUrl, StandardAead, StandardDaead, StandardMac, StandardPrf,
 };
 use std::alloc::Global;
-use tink_base::{NoMemory, PieceStore, Sink, Source};
+use tink_base::{Lookahead, NoMemory, PieceStore, Sink, Source};
 use tinkey_run::laws::sessions_are_readable;
 use tinkey_run::{Status, run, starve};
 

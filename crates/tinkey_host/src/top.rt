@@ -13,7 +13,6 @@ use crate::not_text::report_not_text;
 use crate::progress::Watched;
 use crate::standard::start;
 use crate::terminals::{Terminals, is_kept_off, report_kept_off, report_waiting, waits};
-use lookahead::Lookahead;
 use real_objects::{
     Arguments, DirStore, FileEntropy, NoWords, RandomDevice, StandardOutput, StdSink, StdSource,
     WriteStream, words,
@@ -21,7 +20,7 @@ use real_objects::{
 use std::alloc::Global;
 use std::io::{IsTerminal, Stderr};
 use std::process::ExitCode;
-use tink_base::{Failed, PieceStore, Sink, Source};
+use tink_base::{Failed, Lookahead, PieceStore, Sink, Source};
 use tinkey_plans::report;
 use tinkey_run::{Status, starve};
 

@@ -10,8 +10,8 @@ use Rattle.keyset_model.specs.Reading.{reads_binary}
 use Rattle.managers.specs.Table.{Table}
 use Rattle.seal_wrap.specs.Unwrapped.{Refusal, OuterWire, NotJson, Member, NotOpened, InnerWire, Fault, sealed_in, unwrap_of}
 use Rattle.seal_wrap.specs.Wrapped.{Wrapped, wrap_of}
-use Rattle.seal_wrap.specs.declared.unwrapping.UnwrapFault.{UnwrapFault}
-use Rattle.seal_wrap.specs.declared.unwrapping.UnwrapFault.TheVariants as faults
+use Rattle.seal_wrap.specs.declared.encrypted.unwrapping.UnwrapFault.{UnwrapFault}
+use Rattle.seal_wrap.specs.declared.encrypted.unwrapping.UnwrapFault.TheVariants as faults
 use Rattle.tinkey_cmds.specs.Draws.{Draw, Drawn}
 use Rattle.tinkey_plans.specs.Sealers.{keyset_sealer_of}
 use Rattle.tinkey_plans.specs.Origins.{begins_of}

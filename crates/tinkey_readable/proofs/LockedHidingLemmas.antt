@@ -9,7 +9,7 @@ use Rattle.aead_kinds.proofs.CtrHmacLemmas.{ctr_hmac-is_scheme}
 use Rattle.aead_kinds.proofs.GcmLemmas.{length-gcm_seal}
 use Rattle.aead_kinds.specs.CtrHmac.{authenticated, ctr_hmac_seal, ctr_hmac_tag, ctr_hmac_text}
 use Rattle.aead_kinds.specs.EncryptThenTag.{sealed_by}
-use Rattle.gcm_siv.proofs.GcmSivLemmas.{length-gcm_siv_seal}
+use Rattle.aead_kinds.proofs.GcmSivLemmas.{length-gcm_siv_seal}
 use Rattle.key_msgs.specs.declared.key.KeyKind.{KeyKind}
 use Rattle.key_msgs.specs.declared.key.KeyKind.TheVariants as kinds
 use Rattle.key_msgs.specs.declared.primitive.Primitive.TheVariants.{Aead}

@@ -9,8 +9,8 @@ use Rattle.seal_wrap.specs.Info.{info_of}
 use Rattle.seal_wrap.specs.Unwrapped.{Refusal}
 use Rattle.seal_wrap.specs.Wrapped.{wrapped_text, wrapped_with}
 use Rattle.seal_wrap.specs.Wrapping.{IsRefusal, IsWrapping}
-use Rattle.seal_wrap.specs.declared.unwrapping.UnwrapFault.{UnwrapFault}
-use Rattle.seal_wrap.specs.declared.unwrapping.UnwrapFault.TheVariants as faults
+use Rattle.seal_wrap.specs.declared.encrypted.unwrapping.UnwrapFault.{UnwrapFault}
+use Rattle.seal_wrap.specs.declared.encrypted.unwrapping.UnwrapFault.TheVariants as faults
 use Rattle.tink_spec.specs.Outside.{EntropyState, Stood}
 use Rattle.tinkey_plans.specs.declared.origin.Begins.{Begins}
 use Rattle.tinkey_plans.specs.declared.origin.Origin.{Origin}

@@ -15,11 +15,10 @@ use crate::line::read_line;
 use crate::reply::reply_text;
 use crate::session::{LineFault, Session};
 use keyset_model::Keyset;
-use lookahead::{Drawn, Lookahead};
 use managers::{KeyTable, Managers};
 use memchr::memchr;
 use std::alloc::Global;
-use tink_base::{Entropy, Failed, Sink, Source, write_all};
+use tink_base::{Drawn, Entropy, Failed, Lookahead, Sink, Source, write_all};
 
 /// Why a session ends before its input.
 #[derive(Clone, Copy, Debug, PartialEq, Eq)]

@@ -1,7 +1,7 @@
 use Rattle.std.proofs.Common.{◌≡◌, List, ℕ, ap, refl, subst}
 use Rattle.std.specs.Prelude.{Some, None}
 use Rattle.std.specs.Option.{option_map}
-use Rattle.lookahead.specs.Lent.{Lent}
+use Rattle.tink_base.specs.Drawn.{DrawnBytes}
 use Rattle.key_msgs.specs.declared.primitive.Primitive.TheVariants.{Aead}
 use Rattle.managers.specs.Standard.{standard_table}
 use Rattle.wrapped_prims.specs.Answers.{Sealed, seal_answer}
@@ -15,7 +15,7 @@ returns-in-Ok-clause-answered g c = λ keys over.
     let plain = c.args.plain.now in let ad = c.args.ad.now in let sealed = c.in-Ok.sealed.items in
     let made = rw c.requires.table at (c.in-Ok.ensures.sealed keys (rw c.requires.table over)) in
     let is = subst (λ (random : List ℕ). option_map (λ (s : Sealed). s.bytes) (seal_answer keys standard_table plain ad random) ≡ Some sealed)
-    (ap (λ (s : Lent). s.left) c.new.ensures)
+    (ap (λ (s : DrawnBytes). s.left) c.new.ensures)
     (sealed_with keys (table_of Aead) plain ad sealed c.new.result c.seal.new.entropy made) in
     answered_some refusals.FewRandomBytes (option_map (λ (s : Sealed). s.bytes) (seal_answer keys standard_table plain ad c.args.random.now))
     c.deref.result.now c.args.out.now c.put.new.out c.put.result (rw c.deref.ensures.value is) c.put.ensures.answered
@@ -25,7 +25,7 @@ returns-in-Err-EntropyFault-clause-answered g c = λ keys over.
     let plain = c.args.plain.now in let ad = c.args.ad.now in
     let fault = rw c.in-Err-EntropyFault.field-0-is at (rw c.requires.table at (c.in-Err-EntropyFault.ensures.fault keys (rw c.requires.table over))) in (
       subst (λ (random : List ℕ). option_map (λ (s : Sealed). s.bytes) (seal_answer keys standard_table plain ad random) ≡ None)
-          (ap (λ (s : Lent). s.left) c.new.ensures)
+          (ap (λ (s : DrawnBytes). s.left) c.new.ensures)
           (few_bytes keys (table_of Aead) plain ad c.new.result c.seal.new.entropy fault),
       refl,
     )

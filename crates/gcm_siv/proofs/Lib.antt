@@ -1,3 +1,0 @@
-pub mod PolyvalLemmas
-pub mod GcmSivLemmas
-pub mod BlockLemmas

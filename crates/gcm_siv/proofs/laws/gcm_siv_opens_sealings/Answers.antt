@@ -1,6 +1,0 @@
-use Rattle.gcm_siv.proofs.GcmSivLemmas.{opened-sealed, sealed_under_first}
-use Rattle.gcm_siv.proofs.laws.gcm_siv_opens_sealings.Goals as goal
-
-pub returns : goal.returns
-returns c = λ key bytes plain ad.
-    (opened-sealed key bytes plain ad, sealed_under_first key bytes plain ad)

@@ -1,6 +1,0 @@
-use Rattle.gcm_siv.proofs.GcmSivLemmas.{bytes-gcm_siv_seal, length-gcm_siv_seal}
-use Rattle.gcm_siv.proofs.laws.gcm_siv_seals_bytes.Goals as goal
-
-pub returns : goal.returns
-returns c = λ key iv plain ad k i p.
-    (length-gcm_siv_seal key iv plain ad, bytes-gcm_siv_seal key iv plain ad k i p)

@@ -1,3 +1,0 @@
-pub mod Polyval
-pub mod GcmSiv
-pub mod Laws
