@@ -1,8 +1,10 @@
--- Printed examples of SP 800-38A, proved of the definitions alone, by computation.
-use Rattle.std.proofs.Common.{◌≡◌, ◌++◌, take, refl}
+-- Printed examples of SP 800-38A, proved of the definitions alone, by computation; and that each counter
+-- block is a block.
+use Rattle.std.proofs.Common.{◌≡◌, ℕ, List, ◌++◌, length, take, refl}
 use Rattle.std.specs.Int.{to_be_bytes, w128}
-use Rattle.aes_core.specs.Counter.{ctr, ctr_on_literals}
-use Rattle.aes_core.specs.declared.counter.CtrKind.TheVariants.{All128}
+use Rattle.aes_core.specs.Counter.{counter_plus, ctr, ctr_on_literals}
+use Rattle.aes_core.proofs.CounterLemmas.{length-counter_plus}
+use Rattle.aes_core.specs.declared.counter.CtrKind.TheVariants.{All128, First32, Low32}
 use Rattle.aes_core.specs.Chain.{chain_on_literals, chained, whole_blocks}
 
 -- the first two blocks of F.2.1 (CBC-AES128): each ciphertext block of CBC is the chain from the IV up to
@@ -25,3 +27,13 @@ pub ctr_128 :
     ++ take 7 (to_be_bytes w128 0x9806F66B7970FDFF8617187BB9FFFDFF)
 unfolding ctr_on_literals
 ctr_128 = refl
+
+-- Each counter block T j is a block of 16 bytes (6.5).
+pub length-counter_blocks : (t : List ℕ) (j : ℕ) → length t ≡ 16
+    → (length (counter_plus Low32 t j) ≡ 16) × (length (counter_plus First32 t j) ≡ 16)
+    × (length (counter_plus All128 t j) ≡ 16)
+length-counter_blocks t j block = (
+  length-counter_plus Low32 t j block,
+  length-counter_plus First32 t j block,
+  length-counter_plus All128 t j block,
+)
