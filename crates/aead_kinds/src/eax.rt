@@ -9,8 +9,8 @@ ghost use Rattle.aes_core.specs.declared.counter.CtrKind.TheVariants.{All128};
 ghost use Rattle.aead_kinds.specs.Eax.{eax_tag, eax_text, omac};
 
 use aes_core::Aes;
-use mac_prf::Cmac;
 use aes_core::blocks::xor;
+use mac_prf::Cmac;
 
 /// The MAC of the IV: counter mode starts from it, and the tag includes it.
 pub(crate) fn nonce_of(key: &Aes, iv: &[u8]) -> [u8; 16]

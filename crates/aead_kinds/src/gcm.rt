@@ -10,9 +10,9 @@ ghost use Rattle.aead_kinds.specs.Gcm.{first_counter, gcm_tag, gcm_text, hash_su
 ghost use Rattle.aead_kinds.specs.GcmState.{RunsUnder};
 ghost use Rattle.ghash.specs.GhashState.{IsSubkey};
 
+use aes_core::blocks::same_bytes;
 use aes_core::{Aes, CtrKind, KeySize};
 use ghash::{Ghash, HashKey};
-use aes_core::blocks::same_bytes;
 use std::marker::Model;
 
 // Up to this many bytes of associated data and text GHASH makes no powers of the subkey, so no

@@ -12,8 +12,8 @@ ghost use Rattle.aes_core.specs.declared.counter.CtrKind.TheVariants.{First32};
 ghost use Rattle.aead_kinds.specs.GcmSiv.{derived_half, encryption_key, first_counter, gcm_siv_open, gcm_siv_seal, gcm_siv_tag, gcm_siv_text, hashed};
 
 use crate::polyval::{absorb, hash_under};
-use aes_core::{Aes, CtrKind};
 use aes_core::blocks::{same_bytes, xor};
+use aes_core::{Aes, CtrKind};
 use std::ops::Range;
 use tink_base::NoMemory;
 

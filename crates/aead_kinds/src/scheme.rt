@@ -7,9 +7,9 @@ ghost use Rattle.aead_kinds.specs.SchemeState.{crypt_under, IsSound, IsUnder, st
 ghost use Rattle.tink_base.specs.declared.hash.Hash.{Hash};
 
 use crate::{ctr_hmac, eax};
+use aes_core::blocks::same_bytes;
 use aes_core::{Aes, CtrKind};
 use mac_prf::Hmac;
-use aes_core::blocks::same_bytes;
 use std::ops::Range;
 use tink_base::NoMemory;
 

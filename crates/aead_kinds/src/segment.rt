@@ -9,9 +9,9 @@ ghost use Rattle.tink_base.specs.Hash.{hash_size};
 ghost use Rattle.aead_kinds.specs.Segment.{segment_tag, segment_text};
 
 use crate::scheme::LONGEST_TAG;
+use aes_core::blocks::same_bytes;
 use aes_core::{Aes, CtrKind};
 use mac_prf::Hmac;
-use aes_core::blocks::same_bytes;
 use tink_base::Hash;
 
 /// Encrypts `body` in place and writes its tag: counter mode from `start`, where all 128 bits count

@@ -2,8 +2,8 @@
 
 ghost use Rattle.std.specs.Prelude.{◌≡◌, ◌⊎◌, ◌^◌, ◌≤◌, length};
 
-use aes_core::{Aes, CtrKind};
 use aead_kinds::{Gcm, gcm_siv_seal};
+use aes_core::{Aes, CtrKind};
 use ghash::Ghash;
 use mac_prf::Hmac;
 use std::alloc::Global;

@@ -2,8 +2,8 @@
 //! again, and refused where it is altered.
 
 use crate::rows::{FRONT, behind_front, changed, refused, with_room};
-use aes_core::Aes;
 use aead_kinds::{AeadKey, gcm_siv_open, gcm_siv_seal, open, seal};
+use aes_core::Aes;
 use siv_daead::{SivKey, siv_open, siv_seal};
 use std::alloc::Global;
 use std::ops::Range;

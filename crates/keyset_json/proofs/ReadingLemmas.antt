@@ -11,7 +11,7 @@ use Rattle.serde_json.specs.View.{view, items_of, items_view}
 use Rattle.serde_json.specs.declared.value.Value.{Value}
 use Rattle.keyset_model.specs.declared.record.Record.{Record}
 use Rattle.keyset_model.specs.declared.keyset.Keyset.{Keyset}
-use Rattle.keyset_model.specs.declared.keyset.KeysetFault.{KeysetFault}
+use Rattle.keyset_model.specs.declared.keyset.KeysetRefusal.{KeysetRefusal}
 use Rattle.keyset_model.specs.Keyset.{Keys, built}
 use Rattle.keyset_json.specs.declared.member.Path.{Path}
 use Rattle.keyset_json.specs.declared.member.Member.TheVariants as members
@@ -264,6 +264,6 @@ shape_handed_on (Err e) (errors.Shape path) step read is gives stop = rw is (sto
 shape_handed_on (Err e) (errors.Fault fault) step read is gives stop = absurd gives
 shape_handed_on (Err e) errors.NoMemory step read is gives stop = rw is tt
 
-pub fault_handed_on : (r : Result Keyset JsonError) (fault : KeysetFault) (read : Result Keys Refusal) → IsErrAnd r (λ e. e ≡ errors.Fault fault) → read ≡ Err (Fault fault) → GivesKeyset r read
+pub fault_handed_on : (r : Result Keyset JsonError) (fault : KeysetRefusal) (read : Result Keys Refusal) → IsErrAnd r (λ e. e ≡ errors.Fault fault) → read ≡ Err (Fault fault) → GivesKeyset r read
 fault_handed_on (Ok keyset) fault read is at = absurd is
 fault_handed_on (Err e) fault read is at = rw is at

@@ -12,7 +12,7 @@ use Rattle.std.specs.Cmp.Lexicographic.{slice_cmp}
 use Rattle.serde_json.specs.Data.{Data, null, boolean, number, string, array, object, Items, no_items, item, Members, no_members, member}
 use Rattle.serde_json.specs.Find.{get, get_member, as_str, as_array}
 use Rattle.keyset_model.specs.declared.record.Record.{Record}
-use Rattle.keyset_model.specs.declared.keyset.KeysetFault.{KeysetFault}
+use Rattle.keyset_model.specs.declared.keyset.KeysetRefusal.{KeysetRefusal}
 use Rattle.keyset_model.specs.Keyset.{Keys, IsWithin, IsShort, HasSizes, fault_of, unless_fault, built}
 use Rattle.keyset_json.specs.declared.member.Path.{Path}
 use Rattle.keyset_json.specs.declared.member.Member.{Member}
@@ -182,11 +182,11 @@ sizes_of n rs le all = all_weaker (IsWithin n) HasSizes (λ r h. let url = h.url
 pub short_of : (n : ℕ) (rs : List Record) → n ≤ 2 ^ 29 → AllByRecursion (IsWithin n) rs → AllByRecursion IsShort rs
 short_of n rs le all = all_weaker (IsWithin n) IsShort (λ r h. let url = h.url in let v = h.value in omega arith) rs all
 
-abbrev IfBuilt : (Record → Type 0) → Result Keys KeysetFault → Type 0
+abbrev IfBuilt : (Record → Type 0) → Result Keys KeysetRefusal → Type 0
 IfBuilt P (Ok k) = AllByRecursion P k.records
 IfBuilt P (Err fault) = ⊤
 
-unless_kept : (P : Record → Type 0) (keys : Keys) (fault : Option KeysetFault) → AllByRecursion P keys.records → IfBuilt P (unless_fault fault keys)
+unless_kept : (P : Record → Type 0) (keys : Keys) (fault : Option KeysetRefusal) → AllByRecursion P keys.records → IfBuilt P (unless_fault fault keys)
 unless_kept P keys None all = all
 unless_kept P keys (Some fault) all = tt
 

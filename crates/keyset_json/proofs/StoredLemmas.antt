@@ -11,7 +11,7 @@ use Rattle.base64.specs.GeneralPurpose.{IsBytes}
 use Rattle.serde_json.specs.Data.{Num, unsigned, negative, float, Data, null, boolean, number, string, array, object, Items, no_items, item}
 use Rattle.serde_json.specs.Find.{as_str, as_array}
 use Rattle.serde_json.specs.Read.{read}
-use Rattle.keyset_model.specs.declared.keyset.KeysetFault.{KeysetFault}
+use Rattle.keyset_model.specs.declared.keyset.KeysetRefusal.{KeysetRefusal}
 use Rattle.keyset_model.specs.Keyset.{Keys, fault_of, unless_fault}
 use Rattle.keyset_json.specs.declared.member.Member.TheVariants as members
 use Rattle.keyset_json.specs.declared.member.Path.{Path}
@@ -146,7 +146,7 @@ keys_parts d keys is =
       subst (λ d. records_in d ≡ Ok keys.records) same (subst (λ (k : Keys). records_in whole.0 ≡ Ok k.records) last records.1),
     )
 
-unless_fault-ok : (fault : Option KeysetFault) (got keys : Keys) → fault_of got ≡ fault → without_fault (unless_fault fault got) ≡ Ok keys → (got ≡ keys) × (fault_of keys ≡ None)
+unless_fault-ok : (fault : Option KeysetRefusal) (got keys : Keys) → fault_of got ≡ fault → without_fault (unless_fault fault got) ≡ Ok keys → (got ≡ keys) × (fault_of keys ≡ None)
 unless_fault-ok None got keys none is = let same : got ≡ keys = cc in (same, subst (λ k. fault_of k ≡ None) same none)
 unless_fault-ok (Some fault) got keys some is = absurd (cc)
 

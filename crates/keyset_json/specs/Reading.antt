@@ -16,7 +16,7 @@ use Rattle.serde_json.specs.Data.{Data, null, boolean, number, string, array, ob
 use Rattle.serde_json.specs.Read.{read}
 use Rattle.serde_json.specs.Find.{as_str, as_array}
 use Rattle.keyset_model.specs.declared.record.Record.{Record}
-use Rattle.keyset_model.specs.declared.keyset.KeysetFault.{KeysetFault}
+use Rattle.keyset_model.specs.declared.keyset.KeysetRefusal.{KeysetRefusal}
 use Rattle.keyset_model.specs.declared.keyset.Keyset.{Keyset}
 use Rattle.keyset_model.specs.Keyset.{Keys, built}
 use Rattle.keyset_json.specs.Base64Text.{bytes_of_text}
@@ -134,10 +134,10 @@ pub data Refusal : Type 0 where
   -- this member is the first that isn't of its form
   Shape : (path : Path) → Refusal
   -- this is the first fault of the primary id and the records
-  Fault : (fault : KeysetFault) → Refusal
+  Fault : (fault : KeysetRefusal) → Refusal
 
 -- the same keyset or fault, as an answer of reading
-abbrev pub without_fault : Result Keys KeysetFault → Result Keys Refusal
+abbrev pub without_fault : Result Keys KeysetRefusal → Result Keys Refusal
 without_fault (Ok keys) = Ok keys
 without_fault (Err fault) = Err (Fault fault)
 

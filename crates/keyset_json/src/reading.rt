@@ -16,7 +16,7 @@ use crate::fields::{
 use crate::names::Names;
 use crate::nesting::is_shallow;
 use crate::{Member, Path};
-use keyset_model::{Keyset, KeysetFault, Record};
+use keyset_model::{Keyset, KeysetRefusal, Record};
 use serde_json::{Category, Value};
 use std::alloc::{AllocFailed, Global};
 use tink_base::{Bytes, NoMemory, Text};
@@ -30,15 +30,15 @@ pub enum JsonError {
     /// The first member that isn't of its form.
     Shape(Path),
     /// The first fault of the keyset.
-    Fault(KeysetFault),
+    Fault(KeysetRefusal),
     /// Memory couldn't be allocated.
     NoMemory,
 }
 
-impl From<KeysetFault> for JsonError {
+impl From<KeysetRefusal> for JsonError {
     ghost from_gives = { λ fault e. e ≡ errors.Fault fault };
 
-    fn from(fault: KeysetFault) -> JsonError {
+    fn from(fault: KeysetRefusal) -> JsonError {
         JsonError::Fault(fault)
     }
 }

@@ -4,7 +4,7 @@ use Rattle.std.specs.Prelude.{find, slice_get, nat_le}
 use Rattle.std.specs.List.{list_any, AllByRecursion}
 use Rattle.std.proofs.lemmas.Bool.Decides.{nat_tests}
 use Rattle.keyset_model.specs.declared.record.Record.{Record}
-use Rattle.keyset_model.specs.declared.keyset.KeysetFault.TheVariants as faults
+use Rattle.keyset_model.specs.declared.keyset.KeysetRefusal.TheVariants as faults
 use Rattle.keyset_model.specs.Keyset.{Keys, IsKnown, has_id, has_status, has_prefix, has_material, has_key_data, is_primary, first_without, ambiguous, fault_of}
 use Rattle.keyset_model.specs.WellFormed.{HasOneOf, HasData, IsPrimary, IsWellFormed}
 use Rattle.keyset_model.proofs.WellFormedLemmas.{Lone, position-none, two-lone}

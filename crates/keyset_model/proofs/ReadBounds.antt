@@ -10,7 +10,7 @@ use Rattle.std.proofs.lemmas.List.{length-append}
 use Rattle.tink_spec.specs.Wire.{Payload, varint, eight, bytes, four, WireField, SpellsField, IsCutInto, cut}
 use Rattle.tink_spec.specs.Messages.{is_bytes, is_text, of_number, first_other, unless_at, at_place, joined, ◌>>=◌, later_bytes, last_bytes, last_number, number_in, bytes_in, text_in, embedded, embedded_all, merged}
 use Rattle.proto_wire.proofs.Cuts.{cut-spells}
-use Rattle.keyset_model.specs.declared.keyset.KeysetFault.{KeysetFault}
+use Rattle.keyset_model.specs.declared.keyset.KeysetRefusal.{KeysetRefusal}
 use Rattle.keyset_model.specs.declared.record.Record.{Record}
 use Rattle.keyset_model.specs.Keyset.{Keys, IsShort, fault_of, unless_fault}
 use Rattle.keyset_model.specs.Reading.{record_of, key_of, fault_at, keys_in, without_fault, well_formed, reads_binary}
@@ -203,7 +203,7 @@ keys-bounds n (field ∷ these) most = keys_here (IsReadOf n) field these _ refl
 
 -- ---- keys
 
-unless_fault-ok : (fault : Option KeysetFault) (keys given : Keys) → without_fault (unless_fault fault keys) ≡ Ok given → (fault ≡ None) × (keys ≡ given)
+unless_fault-ok : (fault : Option KeysetRefusal) (keys given : Keys) → without_fault (unless_fault fault keys) ≡ Ok given → (fault ≡ None) × (keys ≡ given)
 unless_fault-ok (Some fault) keys given is = cc
 unless_fault-ok None keys given is = (refl, cc)
 

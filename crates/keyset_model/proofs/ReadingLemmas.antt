@@ -13,8 +13,8 @@ use Rattle.proto_wire.specs.declared.field.Field.{Field}
 use Rattle.proto_wire.specs.declared.field.FieldsError.{FieldsError}
 use Rattle.proto_wire.specs.declared.field.FieldsError.TheVariants as fields_errors
 use Rattle.keyset_model.specs.declared.keyset.Keyset.{Keyset}
-use Rattle.keyset_model.specs.declared.keyset.KeysetFault.{KeysetFault}
-use Rattle.keyset_model.specs.declared.keyset.KeysetFault.TheVariants as faults
+use Rattle.keyset_model.specs.declared.keyset.KeysetRefusal.{KeysetRefusal}
+use Rattle.keyset_model.specs.declared.keyset.KeysetRefusal.TheVariants as faults
 use Rattle.keyset_model.specs.declared.reading.ReadError.{ReadError}
 use Rattle.keyset_model.specs.declared.reading.ReadError.TheVariants as errors
 use Rattle.keyset_model.specs.declared.record.Record.{Record}
@@ -162,7 +162,7 @@ many : (keys : Keys) → 1001 ≤ length keys.records → built keys ≡ Err fau
 unfolding fault_of
 many keys long =
     let some : false ≡ (length keys.records == 0) = grind (arith, nat_tests) in
-    ap (λ (fault : Option KeysetFault). unless_fault fault keys)
+    ap (λ (fault : Option KeysetRefusal). unless_fault fault keys)
     (sym (on _ (fails faults.Empty some) (here _ (more (length keys.records) faults.TooMany (omega arith)))))
 
 bool_cases : (b : Bool) → (b ≡ true) ⊎ (b ≡ false)

@@ -6,8 +6,8 @@ use Rattle.std.specs.List.{list_any, prefix_len, AllByRecursion}
 use Rattle.std.proofs.lemmas.Bool.{true≢false, or_parts, ltb-false, le-ltb, lt-ltb}
 use Rattle.std.proofs.lemmas.Bool.Decides.{nat_tests}
 use Rattle.keyset_model.specs.declared.record.Record.{Record}
-use Rattle.keyset_model.specs.declared.keyset.KeysetFault.{KeysetFault}
-use Rattle.keyset_model.specs.declared.keyset.KeysetFault.TheVariants as faults
+use Rattle.keyset_model.specs.declared.keyset.KeysetRefusal.{KeysetRefusal}
+use Rattle.keyset_model.specs.declared.keyset.KeysetRefusal.TheVariants as faults
 use Rattle.keyset_model.specs.Keyset.{Keys, IsKnown, has_status, has_prefix, has_material, has_key_data, is_primary, first_some, when, first_without, pair_from, next_behind, first_two, ambiguous, fault_of}
 use Rattle.keyset_model.specs.WellFormed.{HasData}
 
@@ -166,7 +166,7 @@ pub record IsWhole (keys : Keys) : Type 0 where
   pub primary : list_any (is_primary keys.primary) keys.records ≡ true
   pub lone : Lone (is_primary keys.primary) keys.records
 
-all-first_without : (test : Record → Bool) (fault : ℕ → KeysetFault) (records : List Record) → option_map fault (first_without test records) ≡ None → AllByRecursion (λ r. test r ≡ true) records
+all-first_without : (test : Record → Bool) (fault : ℕ → KeysetRefusal) (records : List Record) → option_map fault (first_without test records) ≡ None → AllByRecursion (λ r. test r ≡ true) records
 unfolding first_without
 all-first_without test fault records e = each_passes test records (any-position (λ r. not (test r)) records (map-none fault _ e))
 

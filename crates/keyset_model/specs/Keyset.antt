@@ -13,8 +13,8 @@ use Rattle.std.specs.Prelude.{ℕ, suc, ◌+◌, ◌≤◌, ◌^◌, List, [], �
 use Rattle.std.specs.Option.{option_and_then, option_or}
 use Rattle.std.specs.List.{list_any}
 use Rattle.keyset_model.specs.declared.record.Record.{Record}
-use Rattle.keyset_model.specs.declared.keyset.KeysetFault.{KeysetFault}
-use Rattle.keyset_model.specs.declared.keyset.KeysetFault.TheVariants as faults
+use Rattle.keyset_model.specs.declared.keyset.KeysetRefusal.{KeysetRefusal}
+use Rattle.keyset_model.specs.declared.keyset.KeysetRefusal.TheVariants as faults
 
 -- a primary id and records, whatever they are
 pub record Keys : Type 0 where
@@ -114,11 +114,11 @@ unfoldable pub when : {A : Type 0} → Bool → A → Option A
 when test value = if test then Some value else None
 
 -- the fault that the records of these two places are both primary
-abbrev pub ambiguous : ℕ × ℕ → KeysetFault
+abbrev pub ambiguous : ℕ × ℕ → KeysetRefusal
 ambiguous places = faults.AmbiguousPrimary places.0 places.1
 
--- the first fault, in the order of `KeysetFault`
-unfoldable pub fault_of : Keys → Option KeysetFault
+-- the first fault, in the order of `KeysetRefusal`
+unfoldable pub fault_of : Keys → Option KeysetRefusal
 fault_of keys = first_some (
     when (length keys.records == 0) faults.Empty
     ∷ when (nat_lt 1000 (length keys.records)) faults.TooMany
@@ -132,10 +132,10 @@ fault_of keys = first_some (
     ∷ [])
 
 -- the keys, where no fault holds
-abbrev pub unless_fault : Option KeysetFault → Keys → Result Keys KeysetFault
+abbrev pub unless_fault : Option KeysetRefusal → Keys → Result Keys KeysetRefusal
 unless_fault (Some fault) keys = Err fault
 unless_fault None keys = Ok keys
 
 -- the keys as a keyset, or their first fault
-abbrev pub built : Keys → Result Keys KeysetFault
+abbrev pub built : Keys → Result Keys KeysetRefusal
 built keys = unless_fault (fault_of keys) keys

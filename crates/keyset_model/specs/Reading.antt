@@ -16,7 +16,7 @@ use Rattle.std.specs.Result.{result_ok}
 use Rattle.tink_spec.specs.Wire.{WireField, cut}
 use Rattle.tink_spec.specs.Messages.{is_varint, of_number, unless_at, at_place, ◌>>=◌, last_number, number_in, bytes_in, text_in, merged, embedded}
 use Rattle.keyset_model.specs.declared.record.Record.{Record}
-use Rattle.keyset_model.specs.declared.keyset.KeysetFault.{KeysetFault}
+use Rattle.keyset_model.specs.declared.keyset.KeysetRefusal.{KeysetRefusal}
 use Rattle.keyset_model.specs.declared.keyset.Keyset.{Keyset}
 use Rattle.keyset_model.specs.declared.reading.ReadError.{ReadError}
 use Rattle.keyset_model.specs.declared.reading.ReadError.TheVariants as errors
@@ -73,10 +73,10 @@ keys_in fields = unless_at (fault_at fields) (record {
 pub data Refusal : Type 0 where
   -- a field at this place can't be cut or read
   Wire : (at : ℕ) → Refusal
-  Fault : (fault : KeysetFault) → Refusal
+  Fault : (fault : KeysetRefusal) → Refusal
 
 -- the same keyset or fault, as an answer of reading
-abbrev pub without_fault : Result Keys KeysetFault → Result Keys Refusal
+abbrev pub without_fault : Result Keys KeysetRefusal → Result Keys Refusal
 without_fault (Ok keys) = Ok keys
 without_fault (Err fault) = Err (Fault fault)
 

@@ -4,7 +4,7 @@ ghost use Rattle.std.specs.Prelude.{◌≡◌, position};
 ghost use Rattle.std.specs.List.{list_any};
 ghost use Rattle.keyset_model.specs.Keyset.{fault_of, first_without, has_id, is_in, is_primary, has_status, has_prefix, has_material, has_key_data, first_two};
 
-use crate::{KeysetFault, Record};
+use crate::{KeysetRefusal, Record};
 use tink_base::{CRUNCHY, DESTROYED, ENABLED, TINK};
 
 /// The most records that a keyset may have.
@@ -14,35 +14,35 @@ const MOST_RECORDS: usize = 1000;
 const REMOTE: u32 = 4;
 
 /// The first fault of these records with this primary id.
-pub(crate) fn fault_of(primary: u32, records: &[Record]) -> Option<KeysetFault>
+pub(crate) fn fault_of(primary: u32, records: &[Record]) -> Option<KeysetRefusal>
     ensures { result ≡ fault_of (record { primary = primary; records = records.now }) }
 {
     if records.is_empty() {
-        return Some(KeysetFault::Empty);
+        return Some(KeysetRefusal::Empty);
     }
     if records.len() > MOST_RECORDS {
-        return Some(KeysetFault::TooMany);
+        return Some(KeysetRefusal::TooMany);
     }
     if let Some(i) = place_without_status(records) {
-        return Some(KeysetFault::UnknownStatus(i));
+        return Some(KeysetRefusal::UnknownStatus(i));
     }
     if let Some(i) = place_without_prefix(records) {
-        return Some(KeysetFault::UnknownPrefix(i));
+        return Some(KeysetRefusal::UnknownPrefix(i));
     }
     if let Some(i) = place_without_material(records) {
-        return Some(KeysetFault::UnknownMaterial(i));
+        return Some(KeysetRefusal::UnknownMaterial(i));
     }
     if let Some(i) = place_without_key_data(records) {
-        return Some(KeysetFault::MissingKeyData(i));
+        return Some(KeysetRefusal::MissingKeyData(i));
     }
     if !has_any(records, primary) {
-        return Some(KeysetFault::NoPrimary);
+        return Some(KeysetRefusal::NoPrimary);
     }
     if !has_primary(records, primary) {
-        return Some(KeysetFault::PrimaryNotEnabled);
+        return Some(KeysetRefusal::PrimaryNotEnabled);
     }
     if let Some((i, j)) = first_two_primaries(records, primary) {
-        return Some(KeysetFault::AmbiguousPrimary(i, j));
+        return Some(KeysetRefusal::AmbiguousPrimary(i, j));
     }
     None
 }

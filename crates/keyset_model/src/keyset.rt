@@ -18,7 +18,7 @@ const UNKNOWN: u32 = 0;
 /// Why records with a primary id are no keyset, in the order in which faults are looked for. Places
 /// count from 0, and a fault names the first place that has it.
 #[derive(Clone, Copy, Debug, PartialEq, Eq)]
-pub enum KeysetFault {
+pub enum KeysetRefusal {
     /// There is no record.
     Empty,
     /// There are more than 1,000 records.
@@ -39,7 +39,7 @@ pub enum KeysetFault {
     AmbiguousPrimary(usize, usize),
 }
 
-/// A keyset: records, one of them primary, with none of the faults of `KeysetFault`. So there are 1
+/// A keyset: records, one of them primary, with none of the faults of `KeysetRefusal`. So there are 1
 /// to 1,000 records, and exactly one of them is ENABLED and has the primary id (`laws`). Ids may
 /// repeat otherwise.
 #[derive(Drop)]
@@ -65,7 +65,7 @@ impl Model for Keyset {
 impl Keyset {
     /// The keyset of these records with this primary id, or the first fault. A record's URL and
     /// value have at most 2^30 bytes each. No memory is taken.
-    pub fn build(primary: u32, records: Vec<Record>) -> Result<Keyset, KeysetFault>
+    pub fn build(primary: u32, records: Vec<Record>) -> Result<Keyset, KeysetRefusal>
         requires sizes { AllByRecursion HasSizes records.items }
         ensures { result ≡ built (record { primary = primary; records = records.items }) }
     {

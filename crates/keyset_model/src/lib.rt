@@ -12,7 +12,7 @@ mod reading;
 mod record;
 mod writing;
 
-pub use keyset::{Keyset, KeysetFault};
+pub use keyset::{Keyset, KeysetRefusal};
 pub use listing::{info_text, prefix_name, status_name};
 pub use reading::{ReadError, read_binary};
 pub use record::Record;

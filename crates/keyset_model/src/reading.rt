@@ -10,7 +10,7 @@ ghost use Rattle.keyset_model.specs.Steps.{IsRead, KeepsRead, IsFaultAt};
 ghost use Rattle.keyset_model.specs.declared.reading.ReadError.TheVariants as errors;
 
 use crate::key::read_key;
-use crate::{Keyset, KeysetFault, Record};
+use crate::{Keyset, KeysetRefusal, Record};
 use proto_wire::{Field, Fields, FieldsError, Kind, Wire, fields};
 use std::alloc::{AllocFailed, Global};
 use tink_base::NoMemory;
@@ -31,7 +31,7 @@ pub enum ReadError {
     /// fault.
     Wire(Wire),
     /// The first fault of the message.
-    Fault(KeysetFault),
+    Fault(KeysetRefusal),
     /// Memory couldn't be allocated.
     NoMemory,
 }
@@ -57,10 +57,10 @@ impl From<FieldsError> for ReadError {
     }
 }
 
-impl From<KeysetFault> for ReadError {
+impl From<KeysetRefusal> for ReadError {
     ghost from_gives = { λ fault e. e ≡ errors.Fault fault };
 
-    fn from(fault: KeysetFault) -> ReadError {
+    fn from(fault: KeysetRefusal) -> ReadError {
         ReadError::Fault(fault)
     }
 }

@@ -9,8 +9,8 @@ ghost use Rattle.tink_spec.specs.InPlace.{OpensTo};
 
 use crate::reading::read_as;
 use crate::{AeadManager, CheckFault, KeyManager, Prepared};
-use aes_core::Aes;
 use aead_kinds::{AeadKey, gcm_siv_open, gcm_siv_seal, open, seal};
+use aes_core::Aes;
 use key_msgs::{KeyKind, KeyType};
 use std::alloc::Global;
 use std::ops::Range;

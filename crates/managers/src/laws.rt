@@ -2,8 +2,9 @@
 
 ghost use Rattle.managers.specs.Laws.{DopensSealings, OpensSealings, ReadingIsAdmitted, SealingsOpen};
 
-use aead_kinds::laws::{ctr_hmac_opens_sealings, eax_opens_sealings, gcm_opens_sealings};
-use aead_kinds::laws::gcm_siv_opens_sealings;
+use aead_kinds::laws::{
+    ctr_hmac_opens_sealings, eax_opens_sealings, gcm_opens_sealings, gcm_siv_opens_sealings,
+};
 use siv_daead::laws::siv_opens_sealings;
 
 /// A key that a message reads as under a scheme is a valid key of that scheme.

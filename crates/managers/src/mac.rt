@@ -9,8 +9,8 @@ ghost use Rattle.managers.specs.Uses.{tag_of, tag_size_of, tagged};
 use crate::firsts::{write_cmac, write_hmac};
 use crate::reading::read_as;
 use crate::{CheckFault, KeyManager, MacManager, Prepared};
-use key_msgs::{KeyKind, KeyType};
 use aes_core::blocks::same_bytes;
+use key_msgs::{KeyKind, KeyType};
 use std::alloc::Global;
 use tink_base::{NoMemory, Trials};
 

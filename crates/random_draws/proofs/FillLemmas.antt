@@ -16,7 +16,7 @@ use Rattle.random_draws.specs.Slices.{Fill, Id, Key, edit_fills, effect_fills, f
 use Rattle.tinkey_cmds.specs.Draws.{Drawn, and_then, answered as answers}
 use Rattle.tinkey_cmds.specs.Edits.{Edit, EditOf, added, effect_of, grown, id_of, is_taken, new_id, record_of, refusal_of, rotated, step, unless_refused, with_key}
 use Rattle.tinkey_cmds.specs.Edits as edits
-use Rattle.tinkey_cmds.specs.declared.command.CmdFault.{CmdFault}
+use Rattle.tinkey_cmds.specs.declared.command.EditRefusal.{EditRefusal}
 use Rattle.tinkey_session.proofs.DrawLemmas.{served_left}
 use Rattle.tinkey_session.proofs.Options.{clash, map_some, then_some}
 use Rattle.tinkey_session.specs.Lines.{Line, Seal, Dseal, Open, Dopen, Reseal, Dreseal, Tag, Verify, Derive, Edit as AsksEdit, Bad}
@@ -80,7 +80,7 @@ new_took (suc tries) row records random s e = elim (ltb (length random) 4) as (�
     ] refl e
 
 -- a step that draws nothing leaves what the one before it left
-then_left : {A B : Type 0} (f : A → B) (answer : Result A CmdFault) (left : List ℕ) (s : Drawn B) → and_then (answers answer left) (λ r later. answers (Ok (f r)) later) ≡ Some s → left ≡ s.left
+then_left : {A B : Type 0} (f : A → B) (answer : Result A EditRefusal) (left : List ℕ) (s : Drawn B) → and_then (answers answer left) (λ r later. answers (Ok (f r)) later) ≡ Some s → left ≡ s.left
 then_left f (Ok r) left s e = ap (λ d. d.left) (same_Some _ _ e)
 then_left f (Err fault) left s e = ap (λ d. d.left) (same_Some _ _ e)
 
@@ -95,7 +95,7 @@ grown_took keys_with row records random s e = by (and_then (new_id 64 records ra
 
 -- ---- edits
 
-settled : {A : Type 0} (answer : Result A CmdFault) (random : List ℕ) (s : Drawn A) → answers answer random ≡ Some s → Took 0 random s.left
+settled : {A : Type 0} (answer : Result A EditRefusal) (random : List ℕ) (s : Drawn A) → answers answer random ≡ Some s → Took 0 random s.left
 settled answer random s e = took-nothing random s.left (ap (λ d. d.left) (same_Some _ _ e))
 
 effect_took : (keys : Keys) (edit : Edit) (random : List ℕ) (s : Drawn Keys) → effect_of keys edit random ≡ Some s → Took (total (effect_fills keys edit random)) random s.left
@@ -111,7 +111,7 @@ effect_took keys (edits.Delete id) random s e = settled _ random s e
 pub step_took : (keys : Keys) (edit : Edit) (random : List ℕ) (s : Drawn Keys) → step keys edit random ≡ Some s → Took (total (edit_fills keys random edit)) random s.left
 step_took keys edit random s e = by (refusal_of keys edit) e
   where
-    by : (o : Option CmdFault) → unless_refused o (effect_of keys edit) random ≡ Some s → Took (total (unless_there o (effect_fills keys edit random))) random s.left
+    by : (o : Option EditRefusal) → unless_refused o (effect_of keys edit) random ≡ Some s → Took (total (unless_there o (effect_fills keys edit random))) random s.left
     by (Some fault) k = settled _ random s k
     by None k = effect_took keys edit random s k
 

@@ -16,7 +16,7 @@ use Rattle.random_draws.specs.Sessions.{IsMadeWith, NewKeysAreDrawn}
 use Rattle.tinkey_cmds.specs.Draws.{Drawn, and_then, answered as answers}
 use Rattle.tinkey_cmds.specs.Edits.{Edit, EditOf, added, alone, effect_of, grown, id_of, is_taken, new_id, record_of, refusal_of, rotated, step, unless_refused, with_key}
 use Rattle.tinkey_cmds.specs.Edits as edits
-use Rattle.tinkey_cmds.specs.declared.command.CmdFault.{CmdFault}
+use Rattle.tinkey_cmds.specs.declared.command.EditRefusal.{EditRefusal}
 use Rattle.tinkey_session.proofs.Options.{clash, map_some}
 use Rattle.tinkey_session.specs.Lines.{Edit as AsksEdit}
 use Rattle.tinkey_session.specs.Serving.{Served, edit_line, edit_served, edited_reply, last_id, or_refused, refused_line, serve, stepped, template_of}
@@ -97,11 +97,11 @@ is_new (suc tries) row records random s r e ok = elim (ltb (length random) 4) as
 
 -- ---- an edit that makes a key
 
-abbrev IsGrown : (Record → Keys) → Row → List Record → List ℕ → Result Keys CmdFault → Type 0
+abbrev IsGrown : (Record → Keys) → Row → List Record → List ℕ → Result Keys EditRefusal → Type 0
 IsGrown keys_with row records random answer =
-    ((fault : CmdFault) × (answer ≡ Err fault)) ⊎ ((r : Record) × (answer ≡ Ok (keys_with r)) × IsNew 64 row records random r)
+    ((fault : EditRefusal) × (answer ≡ Err fault)) ⊎ ((r : Record) × (answer ≡ Ok (keys_with r)) × IsNew 64 row records random r)
 
-grown_answer : (keys_with : Record → Keys) (row : Row) (records : List Record) (random : List ℕ) (answer : Result Record CmdFault) (left : List ℕ) (s : Drawn Keys)
+grown_answer : (keys_with : Record → Keys) (row : Row) (records : List Record) (random : List ℕ) (answer : Result Record EditRefusal) (left : List ℕ) (s : Drawn Keys)
     → ((r : Record) → answer ≡ Ok r → IsNew 64 row records random r)
     → and_then (answers answer left) (λ r later. answers (Ok (keys_with r)) later) ≡ Some s → IsGrown keys_with row records random s.answer
 grown_answer keys_with row records random (Err fault) left s new e = inl (fault, sym (ap (λ d. d.answer) (same_Some _ _ e)))
@@ -161,7 +161,7 @@ record LineMade (keys : Keys) (random : List ℕ) (found : Result Row Refusal) (
 abbrev IsTold : Keys → List ℕ → Result Row Refusal → List Fill → Served → Type 0
 IsTold keys random found filled x = ((why : Refusal) × (x.reply ≡ Refuses (Refused why))) ⊎ LineMade keys random found filled x
 
-told_refused : (edit : Edit) (keys : Keys) (random : List ℕ) (found : Result Row Refusal) (filled : List Fill) (s : Drawn Keys) (fault : CmdFault) → s.answer ≡ Err fault
+told_refused : (edit : Edit) (keys : Keys) (random : List ℕ) (found : Result Row Refusal) (filled : List Fill) (s : Drawn Keys) (fault : EditRefusal) → s.answer ≡ Err fault
     → IsTold keys random found filled (stepped edit keys s)
 told_refused edit keys random found filled s fault is = inl (Command fault, ap (λ answer. (edit_served edit keys answer s.left).reply) is)
 
@@ -188,7 +188,7 @@ told_made edit keys_with makes keys random row s grown = elim grown [
       })
 ]
 
-told_step : (edit : Row → Edit) (keys_with : Keys → Record → Keys) (makes : MakesKeys edit keys_with) (keys : Keys) (random : List ℕ) (row : Row) (s : Drawn Keys) (o : Option CmdFault)
+told_step : (edit : Row → Edit) (keys_with : Keys → Record → Keys) (makes : MakesKeys edit keys_with) (keys : Keys) (random : List ℕ) (row : Row) (s : Drawn Keys) (o : Option EditRefusal)
     → unless_refused o (effect_of keys (edit row)) random ≡ Some s → IsTold keys random (Ok row) (unless_there o (effect_fills keys (edit row) random)) (stepped (edit row) keys s)
 told_step edit keys_with makes keys random row s (Some fault) e = told_refused (edit row) keys random (Ok row) [] s fault (sym (ap (λ d. d.answer) (same_Some _ _ e)))
 told_step edit keys_with makes keys random row s None e =
@@ -311,7 +311,7 @@ as_new row records filled random r same new = record {
   made = new.made ∙ ap (λ n. record_of row (id_of (take 4 (drop n random))) (take (random_of row) (drop (n + 4) random))) new.is_start;
 }
 
-accepted : (keys_with : Record → Keys) (row : Row) (records : List Record) (random : List ℕ) (answer : Result Keys CmdFault) (new : Keys) → answer ≡ Ok new → IsGrown keys_with row records random answer
+accepted : (keys_with : Record → Keys) (row : Row) (records : List Record) (random : List ℕ) (answer : Result Keys EditRefusal) (new : Keys) → answer ≡ Ok new → IsGrown keys_with row records random answer
     → (r : Record) × (new ≡ keys_with r) × IsNew 64 row records random r
 accepted keys_with row records random answer new ok grown = elim grown [
   | inl refused ↦ no_result refused.0 new (sym refused.1 ∙ ok)
@@ -326,7 +326,7 @@ created_are_drawn row random s new e ok =
 edited_by : (edit : Row → Edit) (keys_with : Keys → Record → Keys) → MakesKeys edit keys_with → AddedAreDrawn edit keys_with
 edited_by edit keys_with makes keys row random s new e ok = by (refusal_of keys (edit row)) e
   where
-    by : (o : Option CmdFault) → unless_refused o (effect_of keys (edit row)) random ≡ Some s
+    by : (o : Option EditRefusal) → unless_refused o (effect_of keys (edit row)) random ≡ Some s
         → (r : Record) × (new ≡ keys_with keys r) × HasNewKey row (unless_there o (effect_fills keys (edit row) random)) random r
     by (Some fault) k = no_result fault new (ap (λ d. d.answer) (same_Some _ _ k) ∙ ok)
     by None k =

@@ -24,7 +24,7 @@ use Rattle.seal_wrap.specs.Info.{info_of}
 use Rattle.seal_wrap.specs.Wrapped.{wrap_of, wrapped_text, wrapped_with}
 use Rattle.tinkey_cmds.specs.Draws.{Draw, Drawn, fill}
 use Rattle.tinkey_cmds.specs.Edits.{Edit, Add, Rotate, Promote, Enable, Disable, Destroy, Delete, first, id_of, record_of, refusal_of, step}
-use Rattle.tinkey_cmds.specs.declared.command.CmdFault.{CmdFault}
+use Rattle.tinkey_cmds.specs.declared.command.EditRefusal.{EditRefusal}
 use Rattle.tinkey_plans.specs.Ends.{Settles}
 use Rattle.tinkey_plans.specs.Envelopes.{as_enveloped, seals_envelope}
 use Rattle.tinkey_plans.specs.Plan.{Made, Of, envelopings, keysets, sealings}
@@ -109,10 +109,10 @@ sealed_of stream drawn rest place table keys plain ad made is e =
       made = s.bytes ∙ ap (λ b. prefix_bytes (prefix_of s.under') ++ seal_of s.key b plain ad) (same_front stream drawn rest place size is enough);
     }
 
-same_given : {A : Type 0} (x y : A) → ◌≡◌ {A = Result A CmdFault} (Ok x) (Ok y) → x ≡ y
+same_given : {A : Type 0} (x y : A) → ◌≡◌ {A = Result A EditRefusal} (Ok x) (Ok y) → x ≡ y
 same_given x y e = cc
 
-same_envelope : (x y : Result (List ℕ) Rule) → ◌≡◌ {A = Result (Result (List ℕ) Rule) CmdFault} (Ok x) (Ok y) → x ≡ y
+same_envelope : (x y : Result (List ℕ) Rule) → ◌≡◌ {A = Result (Result (List ℕ) Rule) EditRefusal} (Ok x) (Ok y) → x ≡ y
 same_envelope x y e = cc
 
 -- ---- envelopes
@@ -189,21 +189,21 @@ header_of stream drawn rest place size s bytes is e ok =
 -- ---- every step
 
 -- what settled, as what it gave of exactly these bytes
-abbrev settled_as : {A : Type 0} → Result A CmdFault → Drawn A
+abbrev settled_as : {A : Type 0} → Result A EditRefusal → Drawn A
 settled_as given = record { answer = given; left = [] }
 
-gave : {A : Type 0} (give mine : Draw A) (drawn : List ℕ) (given : Result A CmdFault) → give ≡ mine → Settles give drawn given → mine drawn ≡ Some (settled_as given)
+gave : {A : Type 0} (give mine : Draw A) (drawn : List ℕ) (given : Result A EditRefusal) → give ≡ mine → Settles give drawn given → mine drawn ≡ Some (settled_as given)
 gave give mine drawn given is settled = ap (λ g. g drawn) (sym is) ∙ ap give (sym (append-nil drawn)) ∙ settled []
 
 nothing_placed : (place : ℕ) (filled : List Fill) → filled ≡ [] → placed 0 place filled ≡ []
 unfolding placed
 nothing_placed place filled e = ap (placed 0 place) e
 
-no_fills : (o : Option CmdFault) → unless_there o [] ≡ []
+no_fills : (o : Option EditRefusal) → unless_there o [] ≡ []
 no_fills None = refl
 no_fills (Some fault) = refl
 
-edit_made : (stream drawn rest : List ℕ) (place : ℕ) (keys : Keys) (edit : Edit) (given : Result Keys CmdFault) (new : Keys) → StandsAt stream place drawn rest
+edit_made : (stream drawn rest : List ℕ) (place : ℕ) (keys : Keys) (edit : Edit) (given : Result Keys EditRefusal) (new : Keys) → StandsAt stream place drawn rest
     → total (edit_fills keys drawn edit) ≡ length drawn → step keys edit drawn ≡ Some (settled_as given) → given ≡ Ok new
     → EditMakesOf stream (placed 0 place (edit_fills keys drawn edit)) keys edit new
 edit_made stream drawn rest place keys (Add row) given new is just e ok =
@@ -216,14 +216,14 @@ edit_made stream drawn rest place keys (Disable id) given new is just e ok = not
 edit_made stream drawn rest place keys (Destroy id) given new is just e ok = nothing_placed place _ (no_fills (refusal_of keys (Destroy id)))
 edit_made stream drawn rest place keys (Delete id) given new is just e ok = nothing_placed place _ (no_fills (refusal_of keys (Delete id)))
 
-sealing_made : (stream drawn rest : List ℕ) (place : ℕ) (table : Table) (keys : Keys) (plain ad : List ℕ) (given : Result (List ℕ) CmdFault) (sealed : List ℕ) → StandsAt stream place drawn rest
+sealing_made : (stream drawn rest : List ℕ) (place : ℕ) (table : Table) (keys : Keys) (plain ad : List ℕ) (given : Result (List ℕ) EditRefusal) (sealed : List ℕ) → StandsAt stream place drawn rest
     → seals keys table plain ad drawn ≡ Some (settled_as given) → given ≡ Ok sealed → IsSealedOf stream (placed 0 place (iv_fills (primary_key keys table Aead))) table keys plain ad sealed
 sealing_made stream drawn rest place table keys plain ad given sealed is e ok =
     let there = map_some as_drawn (seal_answer keys table plain ad drawn) (settled_as given) e in
     let same : there.0.bytes ≡ sealed = same_given _ _ (ap (λ y. y.answer) there.2 ∙ ok) in
     subst (IsSealedOf stream (placed 0 place (iv_fills (primary_key keys table Aead))) table keys plain ad) same (sealed_of stream drawn rest place table keys plain ad there.0 is there.1)
 
-wrapping_made : (stream drawn rest : List ℕ) (place : ℕ) (table : Table) (keys master : Keys) (form : Format) (given : Result (List ℕ) CmdFault) (text : List ℕ) → StandsAt stream place drawn rest
+wrapping_made : (stream drawn rest : List ℕ) (place : ℕ) (table : Table) (keys master : Keys) (form : Format) (given : Result (List ℕ) EditRefusal) (text : List ℕ) → StandsAt stream place drawn rest
     → wraps keys master table form drawn ≡ Some (settled_as given) → given ≡ Ok text
     → (sealed : List ℕ) × IsSealedOf stream (placed 0 place (iv_fills (primary_key master table Aead))) table master (binary_of keys) [] sealed
     × (text ≡ wrapped_text (is_json form) sealed (info_of keys))
@@ -233,7 +233,7 @@ wrapping_made stream drawn rest place table keys master form given text is e ok 
     let same : one.0.text ≡ text = same_given _ _ (ap (λ y. y.answer) one.2 ∙ ok) in
     (two.0.bytes, sealed_of stream drawn rest place table master (binary_of keys) [] two.0 is two.1, sym same ∙ sym (ap (λ y. y.text) two.2))
 
-envelope_made : (stream drawn rest : List ℕ) (place : ℕ) (table : Table) (keys : Keys) (scheme : Scheme) (row : Row) (plain ad : List ℕ) (given : Result (Result (List ℕ) Rule) CmdFault) (bytes : List ℕ)
+envelope_made : (stream drawn rest : List ℕ) (place : ℕ) (table : Table) (keys : Keys) (scheme : Scheme) (row : Row) (plain ad : List ℕ) (given : Result (Result (List ℕ) Rule) EditRefusal) (bytes : List ℕ)
     → StandsAt stream place drawn rest → total (envelope_fills keys table scheme row drawn) ≡ length drawn → seals_envelope keys table scheme row plain ad drawn ≡ Some (settled_as given)
     → given ≡ Ok (Ok bytes) → IsEnvelopeOf stream (placed 0 place (envelope_fills keys table scheme row drawn)) table keys scheme row plain ad bytes
 envelope_made stream drawn rest place table keys scheme row plain ad given bytes is just e ok =
@@ -241,7 +241,7 @@ envelope_made stream drawn rest place table keys scheme row plain ad given bytes
     let same : there.0.answer ≡ Ok bytes = same_envelope _ _ (ap (λ y. y.answer) there.2 ∙ ok) in
     three_of stream drawn rest place table keys scheme row plain ad bytes is just (envelopes_are_drawn keys table scheme row plain ad drawn bytes there.0 there.1 same)
 
-pub makes_of : (stream drawn rest : List ℕ) (place : ℕ) (kind : Made) (give : Draw (Of kind)) (given : Result (Of kind) CmdFault) (used : Step) → StandsAt stream place drawn rest
+pub makes_of : (stream drawn rest : List ℕ) (place : ℕ) (kind : Made) (give : Draw (Of kind)) (given : Result (Of kind) EditRefusal) (used : Step) → StandsAt stream place drawn rest
     → IsStep kind give used → Settles give drawn given → total (step_fills used drawn) ≡ length drawn → MakesOf stream (placed 0 place (step_fills used drawn)) kind given used
 makes_of stream drawn rest place keysets give given (creation row) is step settled just = λ new ok.
     let h = created_are_drawn row drawn (settled_as given) new (gave give (first row) drawn given step settled) ok in

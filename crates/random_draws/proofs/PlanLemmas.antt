@@ -11,8 +11,8 @@ use Rattle.segment_stream.specs.Pumping.{Part}
 use Rattle.segment_stream.specs.StreamKeys as streams
 use Rattle.tinkey_cmds.specs.Draws.{Draw}
 use Rattle.tinkey_cmds.specs.Edits.{first, step}
-use Rattle.tinkey_cmds.specs.declared.command.CmdFault.{CmdFault}
-use Rattle.tinkey_plans.proofs.EachLemmas.{AreAll, IsClosed, IsOpen, dek_each, edit_each, envelope_each, fit_each, lines_each, loaded_each, lock_each, locked_each, made_each, new_lock_each, row_each, scheme_each, stretch_each, under_each, work_each, written_under_each}
+use Rattle.tinkey_cmds.specs.declared.command.EditRefusal.{EditRefusal}
+use Rattle.tinkey_plans.proofs.EachLemmas.{AreAll, IsClosed, IsOpen, dek_each, edit_each, envelope_each, fit_each, lines_each, loaded_each, lock_each, locked_each, made_each, new_lock_each, row_each, scheme_each, range_each, under_each, work_each, written_under_each}
 use Rattle.tinkey_plans.specs.Commands.{asked_plan, command_plan, plan_of}
 use Rattle.tinkey_plans.specs.KeyOf.{key_of_answer, stream_record_line, tells_front, tells_keys}
 use Rattle.tinkey_plans.specs.Locks.{puts_under, writes_under}
@@ -20,7 +20,7 @@ use Rattle.tinkey_plans.specs.Plan.{Of, Plan, ends, writes, creates, looks, allo
 use Rattle.tinkey_plans.specs.SelfTesting.{tells_counts}
 use Rattle.tinkey_plans.specs.Session.{finds_free, holds_session, saves_as}
 use Rattle.tinkey_plans.specs.Steps.{makes_keyset, puts}
-use Rattle.tinkey_plans.specs.Stretch.{Opened}
+use Rattle.tinkey_plans.specs.FileRange.{Opened}
 use Rattle.tinkey_plans.specs.Streaming as streaming
 use Rattle.tinkey_plans.specs.Using.{hex_line, puts_output, shows}
 use Rattle.tinkey_plans.specs.declared.origin.Origin.TheVariants as origins
@@ -32,7 +32,7 @@ use Rattle.tinkey_words.specs.declared.words.misuse.Misuse.{Misuse}
 use Rattle.tinkey_words.specs.declared.words.rows.Format.{Format}
 use Rattle.tinkey_words.specs.declared.words.rows.SealedForm.{SealedForm}
 use Rattle.tinkey_words.specs.declared.words.rows.SealedForm.TheVariants as sealed
-use Rattle.tinkey_words.specs.Words.{Asked, Lock, Place, primitive_for, create_keyset, edit_keyset, list_keyset, key_of, convert_keyset, list_key_templates, use_keyset, use_envelope, seal_stream, open_stream, reseal_stream, open_range, self_test, session, help, version, words_of}
+use Rattle.tinkey_words.specs.Words.{Asked, Lock, KeysetFile, primitive_for, create_keyset, edit_keyset, list_keyset, key_of, convert_keyset, list_key_templates, use_keyset, use_envelope, seal_stream, open_stream, reseal_stream, open_range, self_test, session, help, version, words_of}
 use Rattle.wrapped_prims.specs.Fitness.{unfit}
 
 abbrev pub IsDrawing : Plan → Type 0
@@ -46,7 +46,7 @@ IsDrawing (ranges x absent a next) = (opened : Opened) → IsDrawing (next opene
 IsDrawing (reads_all limit long stated next) = (all : List ℕ) → IsDrawing (next all)
 IsDrawing (reads_front size next) = (front : List ℕ) → IsDrawing (next front)
 IsDrawing (draws kind give next) =
-    ((used : Step) × IsStep kind give used) × ((given : Result (Of kind) CmdFault) → IsDrawing (next given))
+    ((used : Step) × IsStep kind give used) × ((given : Result (Of kind) EditRefusal) → IsDrawing (next given))
 IsDrawing (pumps part) = Unit {0}
 IsDrawing (collects part next) = (output : List ℕ) → IsDrawing (next output)
 IsDrawing (exchanges exchange next) =
@@ -70,14 +70,14 @@ written_drawing : (table : Table) (master : Option Keys) (form : Format) (keys :
 written_drawing table master form keys next all =
     written_under_each IsDrawing closed table master form keys (λ m next all. ((wrapping table keys m form, refl), all)) next all
 
-out_drawing : (table : Table) (master : Option Keys) (out : Place) (keys : Keys) → IsDrawing (puts_under table master out keys)
+out_drawing : (table : Table) (master : Option Keys) (out : KeysetFile) (keys : Keys) → IsDrawing (puts_under table master out keys)
 out_drawing table master out keys = written_drawing table master out.form keys (puts out.file) (put_drawing out.file)
 
 shown_drawing : (hex : Bool) (file : Option (List ℕ)) (bytes : List ℕ) → IsDrawing (shows hex bytes (puts file))
 shown_drawing false file bytes = put_drawing file bytes
 shown_drawing true file bytes = put_drawing file (hex_line bytes)
 
-counts_drawing : (r : Result Counts CmdFault) (lines : ℕ) → IsDrawing (tells_counts lines r writes)
+counts_drawing : (r : Result Counts EditRefusal) (lines : ℕ) → IsDrawing (tells_counts lines r writes)
 counts_drawing (Ok n) lines = tt
 counts_drawing (Err fault) lines = tt
 
@@ -116,7 +116,7 @@ free_drawing : (file : Option (List ℕ)) (next : Unit {0} → Plan) → IsDrawi
 free_drawing None next all = all
 free_drawing (Some name) next all = all
 
-session_drawing : (table : Table) (master : Option Keys) (out : Place) (keys : Keys) → IsDrawing (holds_session table master out keys)
+session_drawing : (table : Table) (master : Option Keys) (out : KeysetFile) (keys : Keys) → IsDrawing (holds_session table master out keys)
 session_drawing table master out keys = free_drawing out.file _ ((table, keys, refl), saved_drawing table master out.file out.form)
 
 streams_drawing : (table : Table) (lock : Lock) (name : List ℕ) (form : Format) (next : KeysForStreams → Plan) → AreAll IsDrawing next → IsDrawing (streaming.loads_stream_keys table lock name form next)
@@ -139,7 +139,7 @@ commands_are_drawing table (use_envelope lock name form template work out) = dek
 commands_are_drawing table (seal_stream lock name form ad out) = streams_drawing table lock name form _ (λ k. stream_drawing k ad out)
 commands_are_drawing table (open_stream lock name form ad out) = streams_drawing table lock name form _ (λ k. unstream_drawing k ad out)
 commands_are_drawing table (reseal_stream lock name form ad out) = streams_drawing table lock name form _ (λ k. restream_drawing k ad out)
-commands_are_drawing table (open_range lock name form ad range out) = streams_drawing table lock name form _ (λ k opened. stretch_each IsDrawing closed opened _ (put_drawing out))
+commands_are_drawing table (open_range lock name form ad range out) = streams_drawing table lock name form _ (λ k opened. range_each IsDrawing closed opened _ (put_drawing out))
 commands_are_drawing table (self_test seed lines) = counts_drawing (trial.self_test table seed lines) lines
 commands_are_drawing table (session lock name form out) = lock_each IsDrawing open_drawing table lock _ (λ master. under_each IsDrawing open_drawing origins.Keyset table master (record { file = Some name; form = form }) _ (session_drawing table master out))
 commands_are_drawing table (help topic) = tt

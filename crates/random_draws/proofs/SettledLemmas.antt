@@ -12,7 +12,7 @@ use Rattle.random_draws.specs.Sessions.{SlicesAreSettled}
 use Rattle.tinkey_cmds.specs.Draws.{Drawn, and_then, answered as answers}
 use Rattle.tinkey_cmds.specs.Edits.{Edit, EditOf, added, effect_of, grown, id_of, is_taken, new_id, refusal_of, rotated, step, unless_refused, with_key}
 use Rattle.tinkey_cmds.specs.Edits as edits
-use Rattle.tinkey_cmds.specs.declared.command.CmdFault.{CmdFault}
+use Rattle.tinkey_cmds.specs.declared.command.EditRefusal.{EditRefusal}
 use Rattle.tinkey_session.proofs.DrawLemmas.{lines_draw_fronts}
 use Rattle.tinkey_session.proofs.Options.{clash, map_some}
 use Rattle.tinkey_session.specs.Lines.{Line, Seal, Dseal, Open, Dopen, Reseal, Dreseal, Tag, Verify, Derive, Edit as AsksEdit, Bad}
@@ -70,7 +70,7 @@ edit_more keys edit random more x e = by (refusal_of keys edit) (map_some (stepp
     s : Drawn Keys
     s = (map_some (stepped edit keys) (step keys edit random) x e).0
 
-    by : (o : Option CmdFault) → unless_refused o (effect_of keys edit) random ≡ Some s → unless_there o (effect_fills keys edit (random ++ more)) ≡ unless_there o (effect_fills keys edit random)
+    by : (o : Option EditRefusal) → unless_refused o (effect_of keys edit) random ≡ Some s → unless_there o (effect_fills keys edit (random ++ more)) ≡ unless_there o (effect_fills keys edit random)
     by (Some fault) k = refl
     by None k = effect_more keys edit random more s k
 

@@ -12,7 +12,7 @@ use Rattle.random_draws.specs.Slices.{Fill, Id, Key, edit_fills, fill_of, new_fi
 use Rattle.seal_wrap.specs.Enveloped.{data_key_of, envelope}
 use Rattle.tinkey_cmds.specs.Draws.{Draw}
 use Rattle.tinkey_cmds.specs.Edits.{Edit, Stepped, alone, first, id_of, record_of, step}
-use Rattle.tinkey_cmds.specs.declared.command.CmdFault.{CmdFault}
+use Rattle.tinkey_cmds.specs.declared.command.EditRefusal.{EditRefusal}
 use Rattle.tinkey_plans.specs.Ends.{Settles}
 use Rattle.wrapped_prims.specs.Candidates.{prefix_bytes, prefix_of}
 use Rattle.wrapped_prims.specs.Fitness.{key_of_record}
@@ -24,7 +24,7 @@ pub record LeavesBehind (filled : List Fill) (random left : List ℕ) : Type 0 w
 
 -- what settled has drawn its fills and nothing else
 abbrev pub DrawsJust : {A : Type 0} → Draw A → (List ℕ → List Fill) → Type 0
-DrawsJust {A} give filled = (drawn : List ℕ) (given : Result A CmdFault) → Settles give drawn given
+DrawsJust {A} give filled = (drawn : List ℕ) (given : Result A EditRefusal) → Settles give drawn given
     → total (filled drawn) ≡ length drawn
 
 -- the record of a new key is made of the last two fills

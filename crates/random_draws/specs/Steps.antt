@@ -21,7 +21,7 @@ use Rattle.seal_wrap.specs.Info.{info_of}
 use Rattle.seal_wrap.specs.Wrapped.{wrapped_text}
 use Rattle.tinkey_cmds.specs.Draws.{Draw, fill}
 use Rattle.tinkey_cmds.specs.Edits.{Edit, Add, Rotate, added, alone, first, id_of, record_of, rotated, step}
-use Rattle.tinkey_cmds.specs.declared.command.CmdFault.{CmdFault}
+use Rattle.tinkey_cmds.specs.declared.command.EditRefusal.{EditRefusal}
 use Rattle.tinkey_plans.specs.Envelopes.{seals_envelope}
 use Rattle.tinkey_plans.specs.Plan.{Made, Of, keysets, sealings, envelopings}
 use Rattle.tinkey_plans.specs.Using.{seals}
@@ -147,7 +147,7 @@ EditMakesOf stream mine keys (Rotate row) new =
 EditMakesOf stream mine keys edit new = mine ≡ []
 
 -- What the step gave, where it isn't refused, is made of its slices of the stream.
-abbrev pub MakesOf : (stream : List ℕ) (mine : List Slice) (kind : Made) → Result (Of kind) CmdFault
+abbrev pub MakesOf : (stream : List ℕ) (mine : List Slice) (kind : Made) → Result (Of kind) EditRefusal
     → Step → Type 0
 MakesOf stream mine keysets given (creation row) = (new : Keys) → given ≡ Ok new
     → (r : Record) × (new ≡ alone r) × IsNewOf stream mine row r

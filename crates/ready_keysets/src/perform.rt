@@ -19,7 +19,7 @@ use managers::{KeyTable, Managers};
 use std::alloc::Global;
 use std::mem::replace;
 use tink_base::{Drawn, Trials};
-use wrapped_prims::{DeriveFault, Handle, HandleFault, HeldKeys, SealFault};
+use wrapped_prims::{DeriveFault, Handle, HandleError, HeldKeys, SealFault};
 
 /// The keys of a keyset, checked and prepared under the standard managers of the primitive.
 pub(crate) fn hold_under(
@@ -36,7 +36,7 @@ pub(crate) fn hold_under(
 {
     match Handle::new(alloc, keyset, managers, primitive) {
         Ok(handle) => Ok(handle.into_keys()),
-        Err(HandleFault::NoMemory) => Err(Refusal::NoMemory),
+        Err(HandleError::NoMemory) => Err(Refusal::NoMemory),
         Err(_) => Err(Refusal::UnfitKey),
     }
 }

@@ -8,10 +8,10 @@ ghost use Rattle.ready_keysets.specs.declared.step.StepFault.TheVariants as step
 
 use crate::kept::Kept;
 use crate::{StepFault, StreamKeyset};
-use tink_base::Drawn;
 use segment_stream::{Sealer, SealerFault, SealingStream, UpdateFault};
 use std::alloc::Global;
 use std::mem::replace;
+use tink_base::Drawn;
 
 /// A stream that is being sealed: an `update` for each piece of the plaintext, and `finish`.
 ///

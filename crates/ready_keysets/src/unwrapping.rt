@@ -16,7 +16,7 @@ use keyset_model::{Keyset, ReadError, read_binary};
 use managers::{KeyTable, Managers};
 use seal_wrap::{UnwrapFault, unwrap_keyset};
 use std::alloc::Global;
-use wrapped_prims::{Handle, HandleFault};
+use wrapped_prims::{Handle, HandleError};
 
 /// The most bytes of an encrypted keyset, and of its master.
 const ENCRYPTED_LIMIT: usize = 4_194_304;
@@ -142,7 +142,7 @@ pub(crate) fn unwrap_under(
 {
     match Handle::new(alloc, master, managers, Primitive::Aead) {
         Ok(handle) => unwrap_by(alloc, &handle, encrypted, json),
-        Err(HandleFault::NoMemory) => Err(Refusal::NoMemory),
+        Err(HandleError::NoMemory) => Err(Refusal::NoMemory),
         Err(_) => Err(Refusal::UnfitMaster),
     }
 }

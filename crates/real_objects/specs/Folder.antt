@@ -10,7 +10,7 @@ use Rattle.real_objects.specs.declared.cause.Cause.{Cause}
 use Rattle.real_objects.specs.declared.cause.FileError.{FileError}
 use Rattle.real_objects.specs.declared.cause.FileError.TheVariants as error
 use Rattle.real_objects.specs.declared.folder.DirStore.{DirStore}
-use Rattle.real_objects.specs.declared.named.Aside.{Aside}
+use Rattle.real_objects.specs.declared.named.Temporary.{Temporary}
 use Rattle.real_objects.specs.Named.{left_path}
 use Rattle.real_objects.specs.Streams.{untold_store}
 use Rattle.tink_spec.specs.Files.{StoreState}
@@ -35,12 +35,12 @@ last_cause kept error.NoMemory = kept
 abbrev pub told_files : DirStore → StoreState
 told_files files = untold_store (fault_count files) files.given
 
--- the path that the files keep of one which was made under a name aside that couldn't be removed
+-- the path that the files keep of one which was made under a temporary name that couldn't be removed
 abbrev pub kept_path : DirStore → Option (List ℕ)
 kept_path files = option_map string_bytes files.left
 
--- the path that they keep once a file was made under this name aside: its own, if the name couldn't be removed
-abbrev pub last_path : Option (List ℕ) → Aside → Option (List ℕ)
+-- the path that they keep once a file was made under this temporary name: its own, if the name couldn't be removed
+abbrev pub last_path : Option (List ℕ) → Temporary → Option (List ℕ)
 last_path kept made = elim (left_path made) [ None ↦ kept | Some path ↦ Some path ]
 
 -- the draft, of which its name alone is told

@@ -17,7 +17,7 @@ pub data Stage : Type 0 where
   Free : Stage
   -- a call that was to look or to make a file has said that memory is wanting, and none was made
   Starved : Stage
-  -- a file of ours stands or stood under a name aside, and none has the name
+  -- a file of ours stands or stood under a temporary name, and none has the name
   Begun : Stage
   -- a call has said that something has the name
   Taken : Stage
@@ -31,13 +31,13 @@ pub data Stage : Type 0 where
   -- or of one that was opened under it, as it is
   Kept : (held : Option (List ℕ)) (lasted : Option Bool) → Stage
 
--- where a file is that was made under a name aside
+-- where a file is that was made under a temporary name
 pub data Place : Type 0 where
-  -- nowhere: none was made, or its name aside is gone
+  -- nowhere: none was made, or its temporary name is gone
   Gone : Place
-  -- it stands under its name aside
+  -- it stands under its temporary name
   There : Place
-  -- its name aside couldn't be removed
+  -- its temporary name couldn't be removed
   Left : Place
 
 -- that far, where it is told
@@ -82,7 +82,7 @@ EndsAs fresh bytes result Opened = result ≡ Err error.Failed
 EndsAs fresh bytes result (Kept held lasted) = IsWhole fresh bytes held lasted × (result ≡ Ok created.Made)
 
 -- what a file that was to be begun is told as, by how far its name came: it is begun where a file of ours stands under
--- a name aside and its owner is let in, and memory is wanting only where a call said so before a file was made
+-- a temporary name and its owner is let in, and memory is wanting only where a call said so before a file was made
 abbrev pub BeginsAs : {F : Type 0} → Result (Option F) StoreError → Stage → Type 0
 BeginsAs result Free = result ≡ Err error.Failed
 BeginsAs result Starved = result ≡ Err error.NoMemory

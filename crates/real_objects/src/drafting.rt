@@ -11,7 +11,7 @@ ghost use Rattle.real_objects.specs.Naming.{Free, Starved, Begun, Taken, Linkles
 
 use crate::cause::{Cause, FileError, cause_of};
 use crate::folder::{NewFile, unmade};
-use crate::naming::{NewName, keep_name, link_file, open_aside};
+use crate::naming::{NewName, keep_name, link_file, open_temporary};
 use crate::streams::write_through_signals;
 use std::io::{self, ErrorKind, Write};
 use tink_base::Created;
@@ -28,15 +28,15 @@ pub fn begin_file<N: NewName>(name: &mut N) -> Result<Option<N::File>, FileError
     requires free { IsAt (N.stage name.old) Free }
     ensures begun { IfSome (N.stage name.new) (λ s. BeginsAs (stored_answer result) s) }
     ensures at { IfOk result (λ begun. IfSome begun (λ file. IsAt (N.stage name.new) Begun)) }
-    ensures there { IfOk result (λ begun. IfSome begun (λ file. N.aside name.new ≡ There)) }
+    ensures there { IfOk result (λ begun. IfSome begun (λ file. N.temporary name.new ≡ There)) }
     ensures fresh { IfOk result (λ begun.
         IfSome begun (λ file. Keeps N.fresh (N.File.contents file))) }
-    ensures cleared { OnErr result (N.aside name.old ≢ There → N.aside name.new ≢ There) }
+    ensures cleared { OnErr result (N.temporary name.old ≢ There → N.temporary name.new ≢ There) }
 {
     if let Err(error) = name.look_up() {
         return unbegun(&error);
     }
-    match open_aside(name) {
+    match open_temporary(name) {
         Ok(mut file) => match file.admit_owner() {
             Ok(()) => Ok(Some(file)),
             Err(error) => {
@@ -91,12 +91,12 @@ pub fn append_piece<F: NewFile>(file: &mut F, piece: &[u8]) -> Result<usize, Cau
 pub fn finish_file<N: NewName>(name: &mut N, file: &mut N::File) -> Result<Created, FileError>
     ghost bytes: { List ℕ }
     requires begun { IsAt (N.stage name.old) Begun }
-    requires there { N.aside name.old ≡ There }
+    requires there { N.temporary name.old ≡ There }
     requires empty { IfSome N.fresh (λ first. first ≡ []) }
     requires written { Appends N.fresh (N.File.contents file.old) bytes }
     ensures named { IfSome (N.stage name.new)
         (λ s. EndsAs N.fresh bytes (stored_answer result) s) }
-    ensures cleared { N.aside name.new ≢ There }
+    ensures cleared { N.temporary name.new ≢ There }
 {
     match store_file(file) {
         Ok(()) => name_file(name, file),
@@ -109,9 +109,9 @@ pub fn finish_file<N: NewName>(name: &mut N, file: &mut N::File) -> Result<Creat
 
 /// Gives up a file that was begun: its name stays free, and removal of the temporary name is tried.
 pub fn give_up_file<N: NewName>(name: &mut N)
-    requires there { N.aside name.old ≡ There }
+    requires there { N.temporary name.old ≡ There }
     ensures unnamed { N.stage name.new ≡ N.stage name.old }
-    ensures cleared { N.aside name.new ≢ There }
+    ensures cleared { N.temporary name.new ≢ There }
 {
     let _left = name.clear();
 }
@@ -129,12 +129,12 @@ fn store_file<F: NewFile>(file: &mut F) -> io::Result<()>
 fn name_file<N: NewName>(name: &mut N, file: &N::File) -> Result<Created, FileError>
     ghost bytes: { List ℕ }
     requires begun { IsAt (N.stage name.old) Begun }
-    requires there { N.aside name.old ≡ There }
+    requires there { N.temporary name.old ≡ There }
     requires empty { IfSome N.fresh (λ first. first ≡ []) }
     requires whole { IsWhole N.fresh bytes (N.File.contents file.now) (N.File.lasts file.now) }
     ensures named { IfSome (N.stage name.new)
         (λ s. EndsAs N.fresh bytes (stored_answer result) s) }
-    ensures cleared { N.aside name.new ≢ There }
+    ensures cleared { N.temporary name.new ≢ There }
 {
     let linked = link_file(name, file);
     let _ = name.clear();
@@ -158,7 +158,7 @@ fn copy_named<N: NewName>(name: &mut N, from: &N::File) -> Result<Created, FileE
     requires written { Appends N.fresh (N.File.contents from.now) bytes }
     ensures named { IfSome (N.stage name.new)
         (λ s. EndsAs N.fresh bytes (stored_answer result) s) }
-    ensures kept { N.aside name.new ≡ N.aside name.old }
+    ensures kept { N.temporary name.new ≡ N.temporary name.old }
 {
     match name.open() {
         Ok(mut file) => match copy_file(from, &mut file) {

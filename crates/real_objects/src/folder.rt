@@ -56,7 +56,7 @@ struct DirDraft {
     name: String,
     // the folder, if it may be read
     folder: Option<File>,
-    aside: String,
+    temporary: String,
     file: File,
 }
 
@@ -100,7 +100,7 @@ impl<'a> DirStore<'a> {
 
     /// Keeps the path of a file whose temporary name couldn't be removed, if there is one.
     fn keep_left(&mut self, place: DirName<'_>)
-        ensures left { kept_path self.new ≡ last_path (kept_path self.old) place.entry.aside }
+        ensures left { kept_path self.new ≡ last_path (kept_path self.old) place.entry.temporary }
         ensures drafted { drafted self.new ≡ drafted self.old }
         ensures cause { kept_cause self.new ≡ kept_cause self.old }
         ensures told { told_files self.new ≡ told_files self.old }
@@ -222,12 +222,12 @@ impl PieceStore for DirStore<'_> {
         let mut place = DirName::new(alloc, self.rt, name);
         match begin_file(&mut place) {
             Ok(Some(file)) => {
-                let (folder, aside) = place.into_begun();
+                let (folder, temporary) = place.into_begun();
                 self.draft = Some(DirDraft {
                     alloc,
                     name: copy,
                     folder,
-                    aside,
+                    temporary,
                     file,
                 });
                 Ok(Begun::Empty)
@@ -260,10 +260,10 @@ impl PieceStore for DirStore<'_> {
             alloc,
             name,
             folder,
-            aside,
+            temporary,
             mut file,
         } = draft;
-        let mut place = DirName::begun(alloc, self.rt, &name, folder, aside);
+        let mut place = DirName::begun(alloc, self.rt, &name, folder, temporary);
         let made = finish_file(&mut place, &mut file);
         self.keep_left(place);
         match made {
@@ -280,10 +280,10 @@ impl PieceStore for DirStore<'_> {
             alloc,
             name,
             folder,
-            aside,
+            temporary,
             ..
         } = draft;
-        let mut place = DirName::begun(alloc, self.rt, &name, folder, aside);
+        let mut place = DirName::begun(alloc, self.rt, &name, folder, temporary);
         give_up_file(&mut place);
         self.keep_left(place);
     }

@@ -25,7 +25,7 @@ pub use cause::{Cause, FileError};
 pub use drafting::{append_piece, begin_file, finish_file, give_up_file};
 pub use entropy::{FileEntropy, Opens, RandomDevice};
 pub use folder::{DirStore, NewFile, fill_opened, load_opened};
-pub use named::{Aside, DirName, folder_of};
+pub use named::{DirName, Temporary, folder_of};
 pub use naming::{NewName, make_file};
 pub use placed::{PlacedFile, read_opened, size_of};
 pub use streams::{StdSink, StdSource};

@@ -15,11 +15,11 @@ use std::fs::{self, File, Metadata, OpenFile, OpenOptions};
 use std::io::{self, ErrorKind, Read};
 use std::mem;
 use std::os::unix::fs::{MetadataExt, OpenOptionsExt};
-use tink_base::ASIDE;
+use tink_base::TEMPORARY;
 
 /// A file made under a temporary name, by its path.
 #[derive(Drop)]
-pub enum Aside {
+pub enum Temporary {
     /// There is none, or its name was removed.
     Gone,
     /// It has its temporary name.
@@ -36,20 +36,20 @@ pub struct DirName<'a> {
     name: &'a str,
     // the folder, after the name was looked up, if it may be read
     folder: Option<File>,
-    aside: Aside,
+    temporary: Temporary,
 }
 
 impl<'a> DirName<'a> {
     /// The path, before it is looked up. The allocator is for the path of a temporary name.
     pub fn new(alloc: Global, rt: &'a HostRuntime, name: &'a str) -> DirName<'a>
-        ensures { place_of result.aside ≡ Gone }
+        ensures { place_of result.temporary ≡ Gone }
     {
         DirName {
             rt,
             alloc,
             name,
             folder: None,
-            aside: Aside::Gone,
+            temporary: Temporary::Gone,
         }
     }
 
@@ -60,49 +60,53 @@ impl<'a> DirName<'a> {
         rt: &'a HostRuntime,
         name: &'a str,
         folder: Option<File>,
-        aside: String,
+        temporary: String,
     ) -> DirName<'a>
-        ensures there { place_of result.aside ≡ There }
-        ensures path { there_path result.aside ≡ Some (string_bytes aside) }
+        ensures there { place_of result.temporary ≡ There }
+        ensures path { there_path result.temporary ≡ Some (string_bytes temporary) }
     {
         DirName {
             rt,
             alloc,
             name,
             folder,
-            aside: Aside::There(aside),
+            temporary: Temporary::There(temporary),
         }
     }
 
     /// The folder, if it may be read, and the temporary path of the file that was begun.
     pub(crate) fn into_begun(self) -> (Option<File>, String)
-        requires there { place_of self.aside ≡ There }
-        ensures path { there_path self.entry.aside ≡ Some (string_bytes result.1) }
+        requires there { place_of self.temporary ≡ There }
+        ensures path { there_path self.entry.temporary ≡ Some (string_bytes result.1) }
     {
-        let DirName { folder, aside, .. } = self;
-        match aside {
-            Aside::There(path) => (folder, path),
-            Aside::Gone | Aside::Left(_) => unreachable!(),
+        let DirName {
+            folder,
+            temporary,
+            ..
+        } = self;
+        match temporary {
+            Temporary::There(path) => (folder, path),
+            Temporary::Gone | Temporary::Left(_) => unreachable!(),
         }
     }
 
     /// The path of the file that couldn't be removed, if there is one.
     pub fn into_left(self) -> Option<String>
-        ensures { option_map string_bytes result ≡ left_path self.entry.aside }
+        ensures { option_map string_bytes result ≡ left_path self.entry.temporary }
     {
-        let DirName { aside, .. } = self;
-        match aside {
-            Aside::Left(path) => Some(path),
-            Aside::Gone | Aside::There(_) => None,
+        let DirName { temporary, .. } = self;
+        match temporary {
+            Temporary::Left(path) => Some(path),
+            Temporary::Gone | Temporary::There(_) => None,
         }
     }
 
     /// The path of a temporary name: 16 hexadecimal digits of random bytes, so that no other run
     /// takes the same one, and nobody can predict it. The bytes are drawn only for this, and aren't
     /// the run's.
-    fn draw_aside(&self) -> io::Result<String> {
+    fn draw_temporary(&self) -> io::Result<String> {
         let (folder, number) = (folder_of(self.name), drawn(self.draw())?);
-        Ok(format!(in self.alloc; "{folder}/{ASIDE}{number:016x}")?)
+        Ok(format!(in self.alloc; "{folder}/{TEMPORARY}{number:016x}")?)
     }
 
     /// A number of eight random bytes.
@@ -122,7 +126,7 @@ impl NewName for DirName<'_> {
 
     ghost stage = { λ _. None };
 
-    ghost aside = { λ s. place_of s.aside };
+    ghost temporary = { λ s. place_of s.temporary };
 
     /// Checks whether anything has the path, even a link that leads nowhere, and opens the folder
     /// if it may be read. A path without a last component is refused.
@@ -134,18 +138,18 @@ impl NewName for DirName<'_> {
     }
 
     #[inline(never)]
-    fn open_aside(&mut self) -> io::Result<File> {
-        let path = self.draw_aside()?;
+    fn open_temporary(&mut self) -> io::Result<File> {
+        let path = self.draw_temporary()?;
         let file = open_new(self.rt, &path)?;
-        self.aside = Aside::There(path);
+        self.temporary = Temporary::There(path);
         Ok(file)
     }
 
     #[inline(never)]
     fn link(&mut self, _file: &File) -> io::Result<()> {
-        match &self.aside {
-            Aside::There(path) => fs::hard_link(self.rt, path.as_str(), self.name),
-            Aside::Gone | Aside::Left(_) => Err(io::Error::from(ErrorKind::NotFound)),
+        match &self.temporary {
+            Temporary::There(path) => fs::hard_link(self.rt, path.as_str(), self.name),
+            Temporary::Gone | Temporary::Left(_) => Err(io::Error::from(ErrorKind::NotFound)),
         }
     }
 
@@ -159,20 +163,20 @@ impl NewName for DirName<'_> {
 
     /// A name that somebody else removed counts as gone, too.
     fn clear(&mut self) -> io::Result<()>
-        requires there { place_of self.old.aside ≡ There }
-        ensures gone { OnOk result (place_of self.new.aside ≡ Gone) }
-        ensures left { OnErr result (place_of self.new.aside ≡ Left) }
+        requires there { place_of self.old.temporary ≡ There }
+        ensures gone { OnOk result (place_of self.new.temporary ≡ Gone) }
+        ensures left { OnErr result (place_of self.new.temporary ≡ Left) }
         ensures kept { ◌≡◌ {A = Option Stage} None None }
 
         // The file left is the one under the temporary name.
-        ensures path { OnErr result (left_path self.new.aside ≡ there_path self.old.aside) }
+        ensures path { OnErr result (left_path self.new.temporary ≡ there_path self.old.temporary) }
     {
-        let Aside::There(path) = mem::replace(&mut self.aside, Aside::Gone) else {
+        let Temporary::There(path) = mem::replace(&mut self.temporary, Temporary::Gone) else {
             return Ok(());
         };
         match fs::remove_file(self.rt, path.as_str()) {
             Err(error) if error.kind() != ErrorKind::NotFound => {
-                self.aside = Aside::Left(path);
+                self.temporary = Temporary::Left(path);
                 Err(error)
             }
             _ => Ok(()),

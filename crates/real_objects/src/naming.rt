@@ -28,7 +28,7 @@ pub trait NewName {
     ghost stage: { Self → Option Stage };
 
     /// The state of the last file made under a temporary name.
-    ghost aside: { Self → Place };
+    ghost temporary: { Self → Place };
 
     /// Checks whether the name is free. The error is `AlreadyExists` if something has it.
     fn look_up(&mut self) -> io::Result<()>
@@ -39,16 +39,16 @@ pub trait NewName {
             IsAt (stage self.new) Starved) }
         ensures unknown { IfErr result (λ error. error_kind error ≢ ErrorKind.AlreadyExists →
             error_kind error ≢ ErrorKind.OutOfMemory → stage self.new ≡ stage self.old) }
-        ensures kept { aside self.new ≡ aside self.old };
+        ensures kept { temporary self.new ≡ temporary self.old };
 
     /// Makes a new file under a temporary name that no other call draws. The error is
     /// `AlreadyExists` if something has that name anyway.
-    fn open_aside(&mut self) -> io::Result<Self::File>
+    fn open_temporary(&mut self) -> io::Result<Self::File>
         requires free { IsAt (stage self.old) Free }
         ensures fresh { IfOk result (λ file. Keeps fresh (Self.File.contents file)) }
         ensures begun { OnOk result (IsAt (stage self.new) Begun) }
-        ensures there { OnOk result (aside self.new ≡ There) }
-        ensures unopened { OnErr result (aside self.new ≡ aside self.old) }
+        ensures there { OnOk result (temporary self.new ≡ There) }
+        ensures unopened { OnErr result (temporary self.new ≡ temporary self.old) }
         ensures starved { IfErr result (λ error. error_kind error ≡ ErrorKind.OutOfMemory →
             IsAt (stage self.new) Starved) }
         ensures kept { IfErr result (λ error. error_kind error ≢ ErrorKind.OutOfMemory →
@@ -58,7 +58,7 @@ pub trait NewName {
     /// if something has the name.
     fn link(&mut self, file: &Self::File) -> io::Result<()>
         requires begun { IsAt (stage self.old) Begun }
-        requires there { aside self.old ≡ There }
+        requires there { temporary self.old ≡ There }
         ensures linked { OnOk result (IsAt (stage self.new)
             (Linked (Self.File.contents file.now) (Self.File.lasts file.now))) }
         ensures taken { IfErr result (λ error. error_kind error ≡ ErrorKind.AlreadyExists →
@@ -67,20 +67,20 @@ pub trait NewName {
             IsAt (stage self.new) Linkless) }
         ensures unlinked { IfErr result (λ error. error_kind error ≢ ErrorKind.AlreadyExists →
             ¬ (HasNoLinks (error_kind error)) → stage self.new ≡ stage self.old) }
-        ensures kept { aside self.new ≡ aside self.old };
+        ensures kept { temporary self.new ≡ temporary self.old };
 
     /// Whether the file has the name although linking failed.
     fn is_linked(&mut self, file: &Self::File) -> bool
         ensures linked { result ≡ true → IsAt (stage self.new)
             (Linked (Self.File.contents file.now) (Self.File.lasts file.now)) }
         ensures others { result ≡ false → stage self.new ≡ stage self.old }
-        ensures kept { aside self.new ≡ aside self.old };
+        ensures kept { temporary self.new ≡ temporary self.old };
 
     /// Removes the temporary name of the last file opened under one. If that fails, it is left.
     fn clear(&mut self) -> io::Result<()>
-        requires there { aside self.old ≡ There }
-        ensures gone { OnOk result (aside self.new ≡ Gone) }
-        ensures left { OnErr result (aside self.new ≡ Left) }
+        requires there { temporary self.old ≡ There }
+        ensures gone { OnOk result (temporary self.new ≡ Gone) }
+        ensures left { OnErr result (temporary self.new ≡ Left) }
         ensures kept { stage self.new ≡ stage self.old };
 
     /// Makes a new file under the name itself. The error is `AlreadyExists` if something has it.
@@ -92,7 +92,7 @@ pub trait NewName {
             IsAt (stage self.new) Taken) }
         ensures unopened { IfErr result (λ error. error_kind error ≢ ErrorKind.AlreadyExists →
             IsAt (stage self.new) Begun) }
-        ensures kept { aside self.new ≡ aside self.old };
+        ensures kept { temporary self.new ≡ temporary self.old };
 
     /// Waits until the system has stored that the file has the name, as far as it allows asking for
     /// that.
@@ -100,7 +100,7 @@ pub trait NewName {
         ensures lasts { OnOk result (stage self.new ≡ option_map
             (kept_as (Self.File.contents file.now) (Self.File.lasts file.now)) (stage self.old)) }
         ensures unknown { OnErr result (stage self.new ≡ stage self.old) }
-        ensures kept { aside self.new ≡ aside self.old };
+        ensures kept { temporary self.new ≡ temporary self.old };
 }
 
 /// Makes a new file of this name with all the bytes.
@@ -115,12 +115,12 @@ pub fn make_file<N: NewName>(name: &mut N, bytes: &[u8]) -> Result<Created, File
     requires free { IsAt (N.stage name.old) Free }
     ensures named { IfSome (N.stage name.new)
         (λ s. EndsAs N.fresh bytes.now (stored_answer result) s) }
-    ensures cleared { N.aside name.old ≢ There → N.aside name.new ≢ There }
+    ensures cleared { N.temporary name.old ≢ There → N.temporary name.new ≢ There }
 {
     if let Err(error) = name.look_up() {
         return unmade(&error);
     }
-    match open_aside(name) {
+    match open_temporary(name) {
         Ok(mut file) => match fill_file(&mut file, bytes) {
             Ok(()) => give_name(name, &file, bytes),
             Err(error) => {
@@ -133,20 +133,20 @@ pub fn make_file<N: NewName>(name: &mut N, bytes: &[u8]) -> Result<Created, File
 }
 
 /// Makes a new file under a temporary name that is free.
-pub(crate) fn open_aside<N: NewName>(name: &mut N) -> io::Result<N::File>
+pub(crate) fn open_temporary<N: NewName>(name: &mut N) -> io::Result<N::File>
     requires free { IsAt (N.stage name.old) Free }
     ensures fresh { IfOk result (λ file. Keeps N.fresh (N.File.contents file)) }
     ensures begun { OnOk result (IsAt (N.stage name.new) Begun) }
-    ensures there { OnOk result (N.aside name.new ≡ There) }
+    ensures there { OnOk result (N.temporary name.new ≡ There) }
     ensures untaken { IfErr result (λ error. error_kind error ≢ ErrorKind.AlreadyExists) }
-    ensures unopened { OnErr result (N.aside name.new ≡ N.aside name.old) }
+    ensures unopened { OnErr result (N.temporary name.new ≡ N.temporary name.old) }
     ensures starved { IfErr result (λ error. error_kind error ≡ ErrorKind.OutOfMemory →
         IsAt (N.stage name.new) Starved) }
     ensures kept { IfErr result (λ error. error_kind error ≢ ErrorKind.OutOfMemory →
         N.stage name.new ≡ N.stage name.old) }
 {
     for _ in 0..DRAWS {
-        match name.open_aside() {
+        match name.open_temporary() {
             Err(error) if error.kind() == ErrorKind::AlreadyExists => {}
             opened => return opened,
         }
@@ -157,11 +157,11 @@ pub(crate) fn open_aside<N: NewName>(name: &mut N) -> io::Result<N::File>
 /// Gives the name to a file that is whole and lasts, and removes the temporary name.
 fn give_name<N: NewName>(name: &mut N, file: &N::File, bytes: &[u8]) -> Result<Created, FileError>
     requires begun { IsAt (N.stage name.old) Begun }
-    requires there { N.aside name.old ≡ There }
+    requires there { N.temporary name.old ≡ There }
     requires whole { IsWhole N.fresh bytes.now (N.File.contents file.now) (N.File.lasts file.now) }
     ensures named { IfSome (N.stage name.new)
         (λ s. EndsAs N.fresh bytes.now (stored_answer result) s) }
-    ensures cleared { N.aside name.new ≢ There }
+    ensures cleared { N.temporary name.new ≢ There }
 {
     let linked = link_file(name, file);
     let _ = name.clear();
@@ -181,7 +181,7 @@ fn give_name<N: NewName>(name: &mut N, file: &N::File, bytes: &[u8]) -> Result<C
 /// server got the call twice, it counts as linked.
 pub(crate) fn link_file<N: NewName>(name: &mut N, file: &N::File) -> io::Result<()>
     requires begun { IsAt (N.stage name.old) Begun }
-    requires there { N.aside name.old ≡ There }
+    requires there { N.temporary name.old ≡ There }
     ensures linked { OnOk result (IsAt (N.stage name.new)
         (Linked (N.File.contents file.now) (N.File.lasts file.now))) }
     ensures taken { IfErr result (λ error. error_kind error ≡ ErrorKind.AlreadyExists →
@@ -190,7 +190,7 @@ pub(crate) fn link_file<N: NewName>(name: &mut N, file: &N::File) -> io::Result<
         IsAt (N.stage name.new) Linkless) }
     ensures unlinked { IfErr result (λ error. error_kind error ≢ ErrorKind.AlreadyExists →
         ¬ (HasNoLinks (error_kind error)) → N.stage name.new ≡ N.stage name.old) }
-    ensures kept { N.aside name.new ≡ N.aside name.old }
+    ensures kept { N.temporary name.new ≡ N.temporary name.old }
 {
     match name.link(file) {
         Ok(()) => Ok(()),
@@ -209,7 +209,7 @@ fn fill_named<N: NewName>(name: &mut N, bytes: &[u8]) -> Result<Created, FileErr
     requires linkless { IsAt (N.stage name.old) Linkless }
     ensures named { IfSome (N.stage name.new)
         (λ s. EndsAs N.fresh bytes.now (stored_answer result) s) }
-    ensures kept { N.aside name.new ≡ N.aside name.old }
+    ensures kept { N.temporary name.new ≡ N.temporary name.old }
 {
     let mut opened = name.open();
     match fill_opened(&mut opened, bytes) {
@@ -227,7 +227,7 @@ pub(crate) fn keep_name<N: NewName>(name: &mut N, file: &N::File) -> Result<Crea
         (kept_as (N.File.contents file.now) (N.File.lasts file.now)) (N.stage name.old))) }
     ensures failed { IfErr (stored_answer result) (λ error. (error ≡ StoreError.Failed) ×
         (N.stage name.new ≡ N.stage name.old)) }
-    ensures kept { N.aside name.new ≡ N.aside name.old }
+    ensures kept { N.temporary name.new ≡ N.temporary name.old }
 {
     match name.put_away(file) {
         Ok(()) => Ok(Created::Made),

@@ -16,7 +16,7 @@ use Rattle.serde_json.specs.Find.{get}
 use Rattle.tink_spec.specs.Wire.{WireField, cut}
 use Rattle.tink_spec.specs.Messages.{is_bytes, of_number, first_other, unless_at, last_bytes, number_in, bytes_in}
 use Rattle.tink_spec.specs.Messages as messages
-use Rattle.keyset_model.specs.declared.keyset.KeysetFault.{KeysetFault}
+use Rattle.keyset_model.specs.declared.keyset.KeysetRefusal.{KeysetRefusal}
 use Rattle.keyset_model.specs.Keyset.{Keys}
 use Rattle.keyset_model.specs.Reading.{reads_binary}
 use Rattle.keyset_model.specs.Reading as reading
@@ -37,7 +37,7 @@ pub data Refusal : Type 0 where
   -- of the keyset inside, the field at this place can't be cut or read
   InnerWire : (at : ℕ) → Refusal
   -- the keyset inside has this fault, the first one
-  Fault : (fault : KeysetFault) → Refusal
+  Fault : (fault : KeysetRefusal) → Refusal
 
 infixl 10 ◌>>=◌
 -- what comes next, unless there is a refusal

@@ -4,8 +4,9 @@ ghost use Rattle.seal_wrap.specs.EnvelopeLaws.{DataKeysAreServed, DataKeysAreVal
 ghost use Rattle.seal_wrap.specs.Laws.{TextHidesKeys, WrapBack, WrapBackBytes};
 ghost use Rattle.seal_wrap.specs.Sealings.{DsealingsFit, SealingsAreBytes, SealingsFit};
 
-use aead_kinds::laws::{ctr_hmac_seals_bytes, eax_seals_bytes, gcm_seals_bytes};
-use aead_kinds::laws::gcm_siv_seals_bytes;
+use aead_kinds::laws::{
+    ctr_hmac_seals_bytes, eax_seals_bytes, gcm_seals_bytes, gcm_siv_seals_bytes,
+};
 use key_msgs::laws::{key_back, made_is_valid};
 use keyset_model::laws::binary_back;
 use managers::laws::{reading_is_admitted, sealings_open};

@@ -11,7 +11,8 @@ mod envelopes;
 pub mod laws;
 
 pub use encrypted::{
-    UnwrapFault, WrapFault, encrypted_front, is_wrapped_binary, is_wrapped_json, unwrap_keyset, wrap,
+    UnwrapFault, WrapFault, encrypted_front, is_wrapped_binary, is_wrapped_json, unwrap_keyset,
+    wrap,
 };
 pub use envelopes::{
     DataKeyFault, ENVELOPE_ROOM, EnvelopeFault, EnvelopeKey, data_key, envelope_key, envelope_open,

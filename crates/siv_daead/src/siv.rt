@@ -8,9 +8,9 @@ ghost use Rattle.aes_core.specs.declared.counter.CtrKind.TheVariants.{All128};
 ghost use Rattle.mac_prf.specs.Cmac.{cmac};
 ghost use Rattle.siv_daead.specs.Siv.{first_counter, mac_key, s2v, siv_open, siv_seal, siv_text};
 
+use aes_core::blocks::{padded, same_bytes, xor};
 use aes_core::{Aes, CtrKind, KeySize};
 use mac_prf::Cmac;
-use aes_core::blocks::{padded, same_bytes, xor};
 use mac_prf::blocks::doubled;
 use std::marker::Model;
 use std::ops::Range;

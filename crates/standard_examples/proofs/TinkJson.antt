@@ -6,7 +6,7 @@ use Rattle.std.specs.Prelude.{⊤}
 use Rattle.std.specs.Fmt.{digits}
 use Rattle.std.specs.Str.{chars, is_utf8}
 use Rattle.keyset_model.specs.declared.record.Record.{Record}
-use Rattle.keyset_model.specs.declared.keyset.KeysetFault.TheVariants as faults
+use Rattle.keyset_model.specs.declared.keyset.KeysetRefusal.TheVariants as faults
 use Rattle.keyset_model.specs.Keyset.{fault_of, first_some, first_two, first_without, when}
 use Rattle.keyset_json.specs.Members.{name_of, field_name_of, member_of}
 use Rattle.keyset_json.specs.Nesting.{is_shallow, nests_within}

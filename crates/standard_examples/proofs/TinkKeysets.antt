@@ -6,7 +6,7 @@ use Rattle.std.specs.Fmt.{digits}
 use Rattle.std.specs.Str.{is_utf8, chars}
 use Rattle.standard_examples.proofs.TinkWire.{wire_on_literals, url, keyset}
 use Rattle.proto_wire.specs.Written.{groups_of}
-use Rattle.keyset_model.specs.declared.keyset.KeysetFault.TheVariants as faults
+use Rattle.keyset_model.specs.declared.keyset.KeysetRefusal.TheVariants as faults
 use Rattle.keyset_model.specs.Keyset.{Keys, first_two, first_without, first_some, when, fault_of}
 use Rattle.keyset_model.specs.Listing.{status_text, prefix_text, escaped, record_lines, info_of}
 use Rattle.keyset_model.specs.Reading.{record_of, key_of, reads_binary, Wire, Fault}

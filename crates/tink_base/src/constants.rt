@@ -18,4 +18,4 @@ pub const RAW: u32 = 3;
 pub const CRUNCHY: u32 = 4;
 
 /// The prefix of the temporary name beside a new file. It doesn't depend on the file's own name.
-pub const ASIDE: &str = ".tinkey-new-";
+pub const TEMPORARY: &str = ".tinkey-new-";

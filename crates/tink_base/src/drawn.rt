@@ -4,8 +4,8 @@ ghost use Rattle.std.specs.Prelude.{◌≡◌, ◌<◌, ◌↔◌, length, take,
 ghost use Rattle.tink_spec.specs.Outside.{Drew, RanShort, RoseOnce, Stood, next};
 ghost use Rattle.tink_base.specs.Drawn.{told_drawn};
 
-use std::marker::Model;
 use crate::{Entropy, Failed};
+use std::marker::Model;
 
 /// An entropy over a borrowed slice; contracts see a `DrawnBytes`. It fails only if fewer bytes are left
 /// than asked for.

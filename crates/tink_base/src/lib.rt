@@ -31,7 +31,7 @@ mod trials;
 pub use ahead::Lookahead;
 pub use all::{ReadAllFault, read_all, read_behind, write_all};
 pub use bytes::Bytes;
-pub use constants::{ASIDE, CRUNCHY, DESTROYED, DISABLED, ENABLED, LEGACY, RAW, TINK};
+pub use constants::{CRUNCHY, DESTROYED, DISABLED, ENABLED, LEGACY, RAW, TEMPORARY, TINK};
 pub use decimal::number_in;
 pub use draft_sink::{DraftLoan, DraftSink, Lent, append_all};
 pub use drawn::Drawn;

@@ -11,10 +11,10 @@ use Rattle.tink_spec.proofs.Moves.{drew_nothing}
 use Rattle.key_msgs.specs.Templates.{Row, type_made}
 use Rattle.keyset_model.specs.declared.record.Record.{Record}
 use Rattle.keyset_model.specs.Keyset.{Keys, IsShort, fault_of, first_some, when}
-use Rattle.tinkey_cmds.specs.declared.command.CmdError.{CmdError}
-use Rattle.tinkey_cmds.specs.declared.command.CmdError.TheVariants.{Refused, EntropyFault, NoMemory}
-use Rattle.tinkey_cmds.specs.declared.command.CmdFault.{CmdFault}
-use Rattle.tinkey_cmds.specs.declared.command.CmdFault.TheVariants.{MixedPrimitive, TooManyKeys}
+use Rattle.tinkey_cmds.specs.declared.command.EditError.{EditError}
+use Rattle.tinkey_cmds.specs.declared.command.EditError.TheVariants.{Refused, EntropyFault, NoMemory}
+use Rattle.tinkey_cmds.specs.declared.command.EditRefusal.{EditRefusal}
+use Rattle.tinkey_cmds.specs.declared.command.EditRefusal.TheVariants.{MixedPrimitive, TooManyKeys}
 use Rattle.tinkey_cmds.specs.Draws.{Draw, answered}
 use Rattle.tinkey_cmds.specs.Edits.{Edit, Add, Rotate, new_record, grown, added, rotated, alone, full_or_mixed, is_same, primary_primitive, refusal_of, effect_of, unless_refused, step, first}
 use Rattle.tinkey_cmds.specs.Applying.{Draws, Applied, Edited, answer_with}
@@ -26,13 +26,13 @@ use Rattle.tinkey_cmds.proofs.Steps.{step-refused, step-accepted}
 
 -- ---- what draws nothing
 
-pub edited-applied : (result : Result Keys CmdError) (give : Draw Keys) (s : EntropyState) → Edited result give → Applied result give s s
+pub edited-applied : (result : Result Keys EditError) (give : Draw Keys) (s : EntropyState) → Edited result give → Applied result give s s
 edited-applied (Ok keys) give s is = (refl, ([], drew_nothing s, is))
 edited-applied (Err (Refused fault)) give s is = (refl, ([], drew_nothing s, is))
 edited-applied (Err EntropyFault) give s is = absurd is
 edited-applied (Err NoMemory) give s is = (refl, (is.0, ([], drew_nothing s, is.1)))
 
-pub applied-refused : (keys : Keys) (edit : Edit) (fault : CmdFault) (s : EntropyState) → refusal_of keys edit ≡ Some fault → Applied (Err (Refused fault)) (step keys edit) s s
+pub applied-refused : (keys : Keys) (edit : Edit) (fault : EditRefusal) (s : EntropyState) → refusal_of keys edit ≡ Some fault → Applied (Err (Refused fault)) (step keys edit) s s
 applied-refused keys edit fault s is = (refl, ([], drew_nothing s, step-refused keys edit fault is))
 
 -- ---- a new record
@@ -42,12 +42,12 @@ pub draws-grown : (keys_with : Record → Keys) (row : Row) (records : List Reco
 draws-grown keys_with row records r old new one = continues-draws (grown keys_with row records) _ old new new _
     (continues-and_then (new_record row records) (λ x left. answered (Ok (keys_with x)) left) r old new one) (draws-answered (Ok (keys_with r)) new)
 
-draws-grown_any : (keys_with : Record → Keys) (row : Row) (records : List Record) (answer : Result Record CmdFault) (old new : EntropyState)
-    → Draws (new_record row records) old new answer → (other : Result Keys CmdFault) × Draws (grown keys_with row records) old new other
+draws-grown_any : (keys_with : Record → Keys) (row : Row) (records : List Record) (answer : Result Record EditRefusal) (old new : EntropyState)
+    → Draws (new_record row records) old new answer → (other : Result Keys EditRefusal) × Draws (grown keys_with row records) old new other
 draws-grown_any keys_with row records (Ok r) old new one = (Ok (keys_with r), draws-grown keys_with row records r old new one)
 draws-grown_any keys_with row records (Err fault) old new one = (Err fault, draws-refused (new_record row records) _ fault old new one)
 
-pub applied-grown : (keys_with : Record → Keys) (row : Row) (records : List Record) (error : CmdError) (old new : EntropyState)
+pub applied-grown : (keys_with : Record → Keys) (row : Row) (records : List Record) (error : EditError) (old new : EntropyState)
     → Applied {A = Record} (Err error) (new_record row records) old new → Applied {A = Keys} (Err error) (grown keys_with row records) old new
 applied-grown keys_with row records (Refused fault) old new is = (is.0, draws-refused (new_record row records) _ fault old new is.1)
 applied-grown keys_with row records EntropyFault old new is = ran_out-first (new_record row records) _ old new is
@@ -55,15 +55,15 @@ applied-grown keys_with row records NoMemory old new is = (is.0, draws-grown_any
 
 -- ---- an accepted edit
 
-pub applied-accepted : (keys : Keys) (edit : Edit) (result : Result Keys CmdError) (old new : EntropyState) → refusal_of keys edit ≡ None
+pub applied-accepted : (keys : Keys) (edit : Edit) (result : Result Keys EditError) (old new : EntropyState) → refusal_of keys edit ≡ None
     → Applied result (effect_of keys edit) old new → Applied result (step keys edit) old new
 applied-accepted keys edit result old new is applied = subst (λ o. Applied result (unless_refused o (effect_of keys edit)) old new) (sym is) applied
 
-pub effect-add : (keys : Keys) (row : Row) (result : Result Keys CmdError) (old new : EntropyState) → Applied result (grown (added keys) row keys.records) old new → Applied result (effect_of keys (Add row)) old new
+pub effect-add : (keys : Keys) (row : Row) (result : Result Keys EditError) (old new : EntropyState) → Applied result (grown (added keys) row keys.records) old new → Applied result (effect_of keys (Add row)) old new
 unfolding effect_of
 effect-add keys row result old new is = is
 
-pub effect-rotate : (keys : Keys) (row : Row) (result : Result Keys CmdError) (old new : EntropyState) → Applied result (grown (rotated keys) row keys.records) old new → Applied result (effect_of keys (Rotate row)) old new
+pub effect-rotate : (keys : Keys) (row : Row) (result : Result Keys EditError) (old new : EntropyState) → Applied result (grown (rotated keys) row keys.records) old new → Applied result (effect_of keys (Rotate row)) old new
 unfolding effect_of
 effect-rotate keys row result old new is = is
 
@@ -83,13 +83,13 @@ yielded-drawn : (P : Keys → Type 0) (give : Draw Keys) (value : Keys) (old new
 unfolding Yields
 yielded-drawn P give value old new yields is = let g = given give value old new is in yields g.0 _ g.1
 
-pub short-step : (keys : Keys) (edit : Edit) (result : Result Keys CmdError) (old new : EntropyState) → HasTemplate edit → AllByRecursion IsShort keys.records
+pub short-step : (keys : Keys) (edit : Edit) (result : Result Keys EditError) (old new : EntropyState) → HasTemplate edit → AllByRecursion IsShort keys.records
     → Applied result (step keys edit) old new → IfOk result (λ k. AllByRecursion IsShort k.records)
 short-step keys edit (Ok k) old new has short is = yielded-drawn _ (step keys edit) k old new (each-kept IsShort kept-short keys edit short) is.1 has
 short-step keys edit (Err error) old new has short is = tt
 
 -- the same of the keyset that an edit left, where the template is known of what was made
-pub short-edited : (result : Result (Unit {0}) CmdError) (keys new : Keys) (edit : Edit) (old after : EntropyState) → OnOk result (HasTemplate edit) → OnErr result (new ≡ keys) → AllByRecursion IsShort keys.records
+pub short-edited : (result : Result (Unit {0}) EditError) (keys new : Keys) (edit : Edit) (old after : EntropyState) → OnOk result (HasTemplate edit) → OnErr result (new ≡ keys) → AllByRecursion IsShort keys.records
     → Applied (answer_with result new) (step keys edit) old after → AllByRecursion IsShort new.records
 short-edited (Ok done) keys new edit old after has kept short is = short-step keys edit (Ok new) old after has short is
 short-edited (Err error) keys new edit old after has kept short is = subst (λ (k : Keys). AllByRecursion IsShort k.records) (sym kept) short

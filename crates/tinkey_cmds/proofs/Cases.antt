@@ -10,8 +10,8 @@ use Rattle.key_msgs.specs.KeyTypes.{primitive_of_type}
 use Rattle.key_msgs.specs.Templates.{Row, type_made, random_of}
 use Rattle.keyset_model.specs.declared.record.Record.{Record}
 use Rattle.keyset_model.specs.Keyset.{Keys, is_enabled, is_destroyed, is_primary, first_some}
-use Rattle.tinkey_cmds.specs.declared.command.CmdFault.{CmdFault}
-use Rattle.tinkey_cmds.specs.declared.command.CmdFault.TheVariants.{KeyRefused, IdsExhausted}
+use Rattle.tinkey_cmds.specs.declared.command.EditRefusal.{EditRefusal}
+use Rattle.tinkey_cmds.specs.declared.command.EditRefusal.TheVariants.{KeyRefused, IdsExhausted}
 use Rattle.tinkey_cmds.specs.Draws.{Drawn, Draw, answered, fill, unless_err, and_then}
 use Rattle.tinkey_cmds.specs.Edits.{Edit, Add, Rotate, Promote, Enable, Disable, Destroy, Delete, id_of, is_taken, new_id, record_of, with_key, new_record, grown, primitive_of, rule_of, primary_primitive, is_same, named, of_named, full_or_mixed, refusal_of, changed, without, with_status, destroyed, with_records, added, rotated, alone, effect_of, unless_refused, step, first}
 use Rattle.tinkey_cmds.specs.Laws.{IsFree}
@@ -24,12 +24,12 @@ use Rattle.tinkey_cmds.proofs.Lists.{none≢some, some≢none}
 unfoldable pub Yields : {A : Type 0} → (A → Type 0) → Draw A → Type 0
 Yields {A} P give = (random : List ℕ) (s : Drawn A) → give random ≡ Some s → IfOk s.answer P
 
-yields-answered : {A : Type 0} (P : A → Type 0) (answer : Result A CmdFault) → IfOk answer P → Yields P (answered answer)
+yields-answered : {A : Type 0} (P : A → Type 0) (answer : Result A EditRefusal) → IfOk answer P → Yields P (answered answer)
 unfolding Yields
 yields-answered P answer has random s e = subst (λ d. IfOk d.answer P) (same_Some _ _ e) has
 
 yields-next : {A B : Type 0} (P : A → Type 0) (Q : B → Type 0) (next : A → Draw B) (s : Drawn B) → ((x : A) → P x → Yields Q (next x))
-    → (answer : Result A CmdFault) (left : List ℕ) → IfOk answer P → unless_err answer left next ≡ Some s → IfOk s.answer Q
+    → (answer : Result A EditRefusal) (left : List ℕ) → IfOk answer P → unless_err answer left next ≡ Some s → IfOk s.answer Q
 unfolding Yields
 yields-next P Q next s each (Err fault) left has e = subst (λ d. IfOk d.answer Q) (same_Some _ _ e) tt
 yields-next P Q next s each (Ok x) left has e = each x has left s e
@@ -107,11 +107,11 @@ pub record Seven (keys : Keys) (P : Edit → Keys → Type 0) : Type 0 where
   pub delete : (id : ℕ) (r : Record) → named keys id ≡ Some r → (id == keys.primary) ≡ false
       → P (Delete id) (with_records keys (without id keys.records))
 
-yields-unless : (P : Keys → Type 0) (refusal : Option CmdFault) (effect : Draw Keys) → (refusal ≡ None → Yields P effect) → Yields P (unless_refused refusal effect)
+yields-unless : (P : Keys → Type 0) (refusal : Option EditRefusal) (effect : Draw Keys) → (refusal ≡ None → Yields P effect) → Yields P (unless_refused refusal effect)
 yields-unless P (Some fault) effect then' = yields-answered P (Err fault) tt
 yields-unless P None effect then' = then' refl
 
-found_named : (o : Option Record) (refusals : Record → List (Option CmdFault)) → of_named o refusals ≡ None → (r : Record) × (o ≡ Some r) × (first_some (refusals r) ≡ None)
+found_named : (o : Option Record) (refusals : Record → List (Option EditRefusal)) → of_named o refusals ≡ None → (r : Record) × (o ≡ Some r) × (first_some (refusals r) ≡ None)
 unfolding of_named
 found_named None refusals e = absurd (some≢none e)
 found_named (Some r) refusals e = (r, refl, e)

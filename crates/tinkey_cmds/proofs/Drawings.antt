@@ -11,8 +11,8 @@ use Rattle.tink_spec.proofs.Moves.{drew_nothing, drew_more, lost_later, rose_lat
 use Rattle.key_msgs.specs.Templates.{Row, random_of}
 use Rattle.keyset_model.specs.declared.record.Record.{Record}
 use Rattle.keyset_model.specs.Keyset.{has_id, is_in}
-use Rattle.tinkey_cmds.specs.declared.command.CmdFault.{CmdFault}
-use Rattle.tinkey_cmds.specs.declared.command.CmdFault.TheVariants.{IdsExhausted}
+use Rattle.tinkey_cmds.specs.declared.command.EditRefusal.{EditRefusal}
+use Rattle.tinkey_cmds.specs.declared.command.EditRefusal.TheVariants.{IdsExhausted}
 use Rattle.tinkey_cmds.specs.Draws.{Draw, answered, fill, and_then}
 use Rattle.tinkey_cmds.specs.Edits.{id_of, is_taken, new_id, with_key, new_record, record_of}
 use Rattle.tinkey_cmds.specs.Applying.{Draws, RanOut, DrewId}
@@ -35,7 +35,7 @@ continues-more f g h old mid new one two = record {
   same = λ more. ap f (append_assoc one.drawn two.drawn more) ∙ one.same (two.drawn ++ more) ∙ two.same more;
 }
 
-pub continues-draws : {A : Type 0} (f g : Draw A) (old mid new : EntropyState) (answer : Result A CmdFault) → Continues f g old mid → Draws g mid new answer → Draws f old new answer
+pub continues-draws : {A : Type 0} (f g : Draw A) (old mid new : EntropyState) (answer : Result A EditRefusal) → Continues f g old mid → Draws g mid new answer → Draws f old new answer
 continues-draws f g old mid new answer one two = (
   one.drawn ++ two.0,
   drew_more old mid new one.drawn two.0 one.drew two.1,
@@ -80,7 +80,7 @@ ran_out-fill old new count ran some = record {
 pub continues-and_then : {A B : Type 0} (f : Draw A) (next : A → Draw B) (x : A) (old new : EntropyState) → Draws f old new (Ok x) → Continues (λ random. and_then (f random) next) (next x) old new
 continues-and_then f next x old new one = record { drawn = one.0; drew = one.1; same = λ more. ap (λ d. and_then d next) (one.2 more) }
 
-pub draws-refused : {A B : Type 0} (f : Draw A) (next : A → Draw B) (fault : CmdFault) (old new : EntropyState) → Draws f old new (Err fault) → Draws (λ random. and_then (f random) next) old new (Err fault)
+pub draws-refused : {A B : Type 0} (f : Draw A) (next : A → Draw B) (fault : EditRefusal) (old new : EntropyState) → Draws f old new (Err fault) → Draws (λ random. and_then (f random) next) old new (Err fault)
 draws-refused f next fault old new one = (one.0, one.1, λ more. ap (λ d. and_then d next) (one.2 more))
 
 none_then : {A B : Type 0} (f : Draw A) (next : A → Draw B) (o : Option (List ℕ)) → IfSome o (λ left. f left ≡ None) → IfSome o (λ left. and_then (f left) next ≡ None)
@@ -97,7 +97,7 @@ ran_out-first f next old new ran = record {
 }
 
 -- an answer that needs no byte
-pub draws-answered : {A : Type 0} (answer : Result A CmdFault) (s : EntropyState) → Draws (answered answer) s s answer
+pub draws-answered : {A : Type 0} (answer : Result A EditRefusal) (s : EntropyState) → Draws (answered answer) s s answer
 draws-answered answer s = ([], drew_nothing s, λ more. refl)
 
 -- ---- ids

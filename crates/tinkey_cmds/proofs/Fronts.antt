@@ -6,14 +6,14 @@ use Rattle.std.proofs.lemmas.Option.{same_Some}
 use Rattle.keyset_model.specs.declared.record.Record.{Record}
 use Rattle.keyset_model.specs.Keyset.{Keys}
 use Rattle.key_msgs.specs.Templates.{Row, random_of}
-use Rattle.tinkey_cmds.specs.declared.command.CmdFault.{CmdFault}
-use Rattle.tinkey_cmds.specs.declared.command.CmdFault.TheVariants.{IdsExhausted}
+use Rattle.tinkey_cmds.specs.declared.command.EditRefusal.{EditRefusal}
+use Rattle.tinkey_cmds.specs.declared.command.EditRefusal.TheVariants.{IdsExhausted}
 use Rattle.tinkey_cmds.specs.Draws.{Drawn, Draw, answered, fill, unless_err, and_then}
 use Rattle.tinkey_cmds.specs.Edits.{Edit, Add, Rotate, Promote, Enable, Disable, Destroy, Delete, id_of, is_taken, new_id, record_of, with_key, new_record, grown, added, rotated, alone, refusal_of, effect_of, unless_refused, step, first}
 use Rattle.tinkey_cmds.specs.Laws.{DrawsFronts}
 use Rattle.tinkey_cmds.proofs.Lists.{none≢some}
 
-fronts-answered : {A : Type 0} (answer : Result A CmdFault) → DrawsFronts (answered answer)
+fronts-answered : {A : Type 0} (answer : Result A EditRefusal) → DrawsFronts (answered answer)
 fronts-answered answer random s e =
     let same = same_Some _ _ e in
     ([], ap (λ d. d.left) same, λ more. ap (λ d. answered d.answer more) same)
@@ -39,7 +39,7 @@ fronts-fill count random s e = elim (ltb (length random) count) as (λ b. ltb (l
 
 -- a step whose answer is known, and the next
 fronts-next : {A B : Type 0} (f : Draw A) (next : A → Draw B) (random : List ℕ) (s : Drawn B) → ((x : A) → DrawsFronts (next x))
-    → (answer : Result A CmdFault) (left : List ℕ)
+    → (answer : Result A EditRefusal) (left : List ℕ)
     → (front : (drawn : List ℕ) × (random ≡ drawn ++ left) × ((more : List ℕ) → f (drawn ++ more) ≡ answered answer more))
     → unless_err answer left next ≡ Some s
     → (drawn : List ℕ) × (random ≡ drawn ++ s.left) × ((more : List ℕ) → and_then (f (drawn ++ more)) next ≡ answered s.answer more)
@@ -89,7 +89,7 @@ fronts-effect keys (Disable id) = fronts-answered _
 fronts-effect keys (Destroy id) = fronts-answered _
 fronts-effect keys (Delete id) = fronts-answered _
 
-fronts-unless : (refusal : Option CmdFault) (effect : Draw Keys) → DrawsFronts effect → DrawsFronts (unless_refused refusal effect)
+fronts-unless : (refusal : Option EditRefusal) (effect : Draw Keys) → DrawsFronts effect → DrawsFronts (unless_refused refusal effect)
 fronts-unless (Some fault) effect fronts = fronts-answered (Err fault)
 fronts-unless None effect fronts = fronts
 

@@ -4,27 +4,27 @@ use Rattle.std.proofs.lemmas.Option.{same_Some}
 use Rattle.keyset_model.specs.declared.record.Record.{Record}
 use Rattle.keyset_model.specs.Keyset.{Keys}
 use Rattle.key_msgs.specs.Templates.{Row, random_of}
-use Rattle.tinkey_cmds.specs.declared.command.CmdFault.{CmdFault}
-use Rattle.tinkey_cmds.specs.declared.command.CmdFault.TheVariants.{IdsExhausted}
+use Rattle.tinkey_cmds.specs.declared.command.EditRefusal.{EditRefusal}
+use Rattle.tinkey_cmds.specs.declared.command.EditRefusal.TheVariants.{IdsExhausted}
 use Rattle.tinkey_cmds.specs.Draws.{Drawn, Draw, answered, fill, unless_err, and_then}
 use Rattle.tinkey_cmds.specs.Edits.{Edit, Add, Rotate, Promote, Enable, Disable, Destroy, Delete, id_of, is_taken, new_id, record_of, with_key, new_record, grown, added, rotated, refusal_of, effect_of, unless_refused}
 use Rattle.tinkey_cmds.specs.Laws.{RefusalsDrawNothing}
 use Rattle.tinkey_cmds.proofs.Lists.{none≢some}
 
 -- the only refusal is that no draw gave an id
-IsExhausted : {A : Type 0} → Result A CmdFault → Type 0
+IsExhausted : {A : Type 0} → Result A EditRefusal → Type 0
 IsExhausted (Ok value) = Unit {0}
 IsExhausted (Err fault) = fault ≡ IdsExhausted
 
 OnlyExhausted : {A : Type 0} → Draw A → Type 0
 OnlyExhausted {A} give = (random : List ℕ) (s : Drawn A) → give random ≡ Some s → IsExhausted s.answer
 
-only-answered : {A : Type 0} (answer : Result A CmdFault) → IsExhausted answer → OnlyExhausted (answered answer)
+only-answered : {A : Type 0} (answer : Result A EditRefusal) → IsExhausted answer → OnlyExhausted (answered answer)
 unfolding OnlyExhausted
 only-answered answer is random s e = subst (λ d. IsExhausted d.answer) (same_Some _ _ e) is
 
 only-next : {A B : Type 0} (next : A → Draw B) (s : Drawn B) → ((x : A) → OnlyExhausted (next x))
-    → (answer : Result A CmdFault) (left : List ℕ) → IsExhausted answer → unless_err answer left next ≡ Some s → IsExhausted s.answer
+    → (answer : Result A EditRefusal) (left : List ℕ) → IsExhausted answer → unless_err answer left next ≡ Some s → IsExhausted s.answer
 unfolding OnlyExhausted IsExhausted
 only-next next s each (Err fault) left is e = subst (λ d. IsExhausted d.answer) (same_Some _ _ e) is
 only-next next s each (Ok x) left is e = each x left s e
@@ -68,7 +68,7 @@ only-effect keys (Disable id) = only-answered _ tt
 only-effect keys (Destroy id) = only-answered _ tt
 only-effect keys (Delete id) = only-answered _ tt
 
-left_as_before : (refusal : Option CmdFault) (effect : Draw Keys) (random : List ℕ) (s : Drawn Keys) (fault : CmdFault) → OnlyExhausted effect
+left_as_before : (refusal : Option EditRefusal) (effect : Draw Keys) (random : List ℕ) (s : Drawn Keys) (fault : EditRefusal) → OnlyExhausted effect
     → unless_refused refusal effect random ≡ Some s → s.answer ≡ Err fault → (fault ≡ IdsExhausted → ⊥) → s.left ≡ random
 unfolding OnlyExhausted IsExhausted
 left_as_before (Some other) effect random s fault only e is not' = ap (λ d. d.left) (sym (same_Some _ _ e))

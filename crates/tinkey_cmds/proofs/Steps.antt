@@ -8,10 +8,10 @@ use Rattle.keyset_model.specs.Keyset.{Keys, has_id, is_enabled, is_destroyed, is
 use Rattle.keyset_model.proofs.PrimaryLemmas.{at_position, no_position}
 use Rattle.key_msgs.specs.declared.primitive.Primitive.{Primitive}
 use Rattle.key_msgs.specs.declared.rule.Rule.{Rule}
-use Rattle.tinkey_cmds.specs.declared.command.CmdFault.{CmdFault}
-use Rattle.tinkey_cmds.specs.declared.command.CmdFault.TheVariants.{KeyNotFound, KeyIsPrimary, KeyNotEnabled, KeyDestroyed, KeyRefused, MixedPrimitive, AmbiguousPrimary}
-use Rattle.tinkey_cmds.specs.declared.command.CmdError.{CmdError}
-use Rattle.tinkey_cmds.specs.declared.command.CmdError.TheVariants.{Refused, EntropyFault, NoMemory}
+use Rattle.tinkey_cmds.specs.declared.command.EditRefusal.{EditRefusal}
+use Rattle.tinkey_cmds.specs.declared.command.EditRefusal.TheVariants.{KeyNotFound, KeyIsPrimary, KeyNotEnabled, KeyDestroyed, KeyRefused, MixedPrimitive, AmbiguousPrimary}
+use Rattle.tinkey_cmds.specs.declared.command.EditError.{EditError}
+use Rattle.tinkey_cmds.specs.declared.command.EditError.TheVariants.{Refused, EntropyFault, NoMemory}
 use Rattle.keyset_model.specs.Changes.{destroyed_at, with_status_at, without_at}
 use Rattle.tinkey_cmds.specs.Applying.{Edited, answer_with}
 use Rattle.tinkey_cmds.specs.Draws.{Draw, answered}
@@ -23,7 +23,7 @@ use Rattle.tinkey_cmds.proofs.Places.{at-changed, at-removed}
 
 -- ---- steps
 
-pub step-refused : (keys : Keys) (edit : Edit) (fault : CmdFault) → refusal_of keys edit ≡ Some fault → (random : List ℕ) → step keys edit random ≡ answered (Err fault) random
+pub step-refused : (keys : Keys) (edit : Edit) (fault : EditRefusal) → refusal_of keys edit ≡ Some fault → (random : List ℕ) → step keys edit random ≡ answered (Err fault) random
 step-refused keys edit fault is random = ap (λ o. unless_refused o (effect_of keys edit) random) is
 
 pub step-accepted : (keys : Keys) (edit : Edit) → refusal_of keys edit ≡ None → (random : List ℕ) → step keys edit random ≡ effect_of keys edit random
@@ -31,14 +31,14 @@ step-accepted keys edit is random = ap (λ o. unless_refused o (effect_of keys e
 
 -- some answer, and no byte drawn
 pub Settled : Draw Keys → Type 0
-Settled give = (answer : Result Keys CmdFault) × ((random : List ℕ) → give random ≡ answered answer random)
+Settled give = (answer : Result Keys EditRefusal) × ((random : List ℕ) → give random ≡ answered answer random)
 
-settled-unless : (refusal : Option CmdFault) (effect : Draw Keys) → Settled effect → Settled (unless_refused refusal effect)
+settled-unless : (refusal : Option EditRefusal) (effect : Draw Keys) → Settled effect → Settled (unless_refused refusal effect)
 unfolding Settled
 settled-unless (Some fault) effect s = (Err fault, λ random. refl)
 settled-unless None effect s = s
 
-pub settled-enable : (keys : Keys) (id : ℕ) → (answer : Result Keys CmdFault) × ((random : List ℕ) → step keys (Enable id) random ≡ answered answer random)
+pub settled-enable : (keys : Keys) (id : ℕ) → (answer : Result Keys EditRefusal) × ((random : List ℕ) → step keys (Enable id) random ≡ answered answer random)
 unfolding Settled effect_of
 settled-enable keys id = settled-unless (refusal_of keys (Enable id)) (effect_of keys (Enable id)) (_, λ random. refl)
 
@@ -188,8 +188,8 @@ key-removed keys id i within place = ap (with_records keys) (at-removed id i key
 
 -- ---- answers
 
-pub memory-edited : (result : Result (Unit {0}) CmdError) (new : Keys) (give : Draw Keys) → IsErr result → IsErrAnd result (λ error. error ≡ NoMemory)
-    → (answer : Result Keys CmdFault) × ((random : List ℕ) → give random ≡ answered answer random) → Edited (answer_with result new) give
+pub memory-edited : (result : Result (Unit {0}) EditError) (new : Keys) (give : Draw Keys) → IsErr result → IsErrAnd result (λ error. error ≡ NoMemory)
+    → (answer : Result Keys EditRefusal) × ((random : List ℕ) → give random ≡ answered answer random) → Edited (answer_with result new) give
 memory-edited (Ok done) new give err is settled = absurd (false≢true err)
 memory-edited (Err (Refused fault)) new give err is settled = absurd (grind arith)
 memory-edited (Err EntropyFault) new give err is settled = absurd (grind arith)

@@ -5,8 +5,8 @@ use Rattle.std.proofs.lemmas.Bool.{false≢true}
 use Rattle.tink_spec.specs.Outside.{Drew, EntropyState, RanShort}
 use Rattle.tink_spec.proofs.Moves.{drew_more, drew_nothing, lost_later}
 use Rattle.keyset_model.specs.Keyset.{Keys}
-use Rattle.tinkey_cmds.specs.declared.command.CmdError.{CmdError}
-use Rattle.tinkey_cmds.specs.declared.command.CmdError.TheVariants.{Refused, EntropyFault, NoMemory}
+use Rattle.tinkey_cmds.specs.declared.command.EditError.{EditError}
+use Rattle.tinkey_cmds.specs.declared.command.EditError.TheVariants.{Refused, EntropyFault, NoMemory}
 use Rattle.tinkey_cmds.specs.Applying.{DrawsWhole, DrewIds, Edited, LostBehindIds, answer_with}
 use Rattle.tinkey_cmds.specs.Draws.{Draw}
 
@@ -46,14 +46,14 @@ pub groups-end : (old mid new : EntropyState) (groups : ℕ) → groups ≤ 64 �
 groups-end old mid new groups most before ran = ids-lost old mid new 4 4 (omega arith) (groups-ids old mid groups most before) ran
 
 -- an edit that draws nothing
-pub edited-whole : (result : Result (Unit {0}) CmdError) (new : Keys) (give : Draw Keys) (s : EntropyState) → Edited (answer_with result new) give → DrawsWhole result s s
+pub edited-whole : (result : Result (Unit {0}) EditError) (new : Keys) (give : Draw Keys) (s : EntropyState) → Edited (answer_with result new) give → DrawsWhole result s s
 edited-whole (Ok done) new give s is = tt
 edited-whole (Err (Refused fault)) new give s is = tt
 edited-whole (Err EntropyFault) new give s is = absurd is
 edited-whole (Err NoMemory) new give s is = tt
 
 -- an error of the new record is handed on
-pub error-whole : (A B : Type 0) (error : CmdError) (old new : EntropyState) → DrawsWhole {A = A} (Err error) old new → DrawsWhole {A = B} (Err error) old new
+pub error-whole : (A B : Type 0) (error : EditError) (old new : EntropyState) → DrawsWhole {A = A} (Err error) old new → DrawsWhole {A = B} (Err error) old new
 error-whole A B (Refused fault) old new whole = tt
 error-whole A B EntropyFault old new whole = whole
 error-whole A B NoMemory old new whole = tt

@@ -1,10 +1,10 @@
 -- How code answers that draws from an entropy, by what is to be drawn.
 use Rattle.std.specs.Prelude.{◌≡◌, ◌≤◌, ◌*◌, ℕ, List, [], ◌++◌, length, Option, Some, None, IfSome, IsTrue, Result, Ok, Err}
 use Rattle.tink_spec.specs.Outside.{EntropyState, Drew, DrewLosing, Rose, Stood}
-use Rattle.tinkey_cmds.specs.declared.command.CmdError.{CmdError}
-use Rattle.tinkey_cmds.specs.declared.command.CmdError.TheVariants.{Refused, EntropyFault, NoMemory}
-use Rattle.tinkey_cmds.specs.declared.command.CmdFault.{CmdFault}
-use Rattle.tinkey_cmds.specs.declared.command.CmdFault.TheVariants.{IdsExhausted}
+use Rattle.tinkey_cmds.specs.declared.command.EditError.{EditError}
+use Rattle.tinkey_cmds.specs.declared.command.EditError.TheVariants.{Refused, EntropyFault, NoMemory}
+use Rattle.tinkey_cmds.specs.declared.command.EditRefusal.{EditRefusal}
+use Rattle.tinkey_cmds.specs.declared.command.EditRefusal.TheVariants.{IdsExhausted}
 use Rattle.keyset_model.specs.declared.record.Record.{Record}
 use Rattle.keyset_model.specs.declared.keyset.Keyset.{Keyset}
 use Rattle.keyset_model.specs.Keyset.{Keys}
@@ -13,7 +13,7 @@ use Rattle.tinkey_cmds.specs.Draws.{Draw, answered}
 
 -- These bytes are all that is drawn, whatever stands behind them, and this is the answer.
 abbrev pub Draws : {A : Type 0} → Draw A → (old new : EntropyState)
-    → (answer : Result A CmdFault) → Type 0
+    → (answer : Result A EditRefusal) → Type 0
 Draws give old new answer = (drawn : List ℕ) × Drew old new drawn
     × ((more : List ℕ) → give (drawn ++ more) ≡ answered answer more)
 
@@ -28,13 +28,13 @@ pub record RanOut {A : Type 0} (give : Draw A) (old new : EntropyState) : Type 0
 
 -- What was to be drawn was, and this is its answer; only after `EntropyFault` it wasn't. At
 -- `NoMemory` the answer is lost, but all its bytes are drawn.
-abbrev pub Applied : {A : Type 0} → Result A CmdError → Draw A → (old new : EntropyState) → Type 0
+abbrev pub Applied : {A : Type 0} → Result A EditError → Draw A → (old new : EntropyState) → Type 0
 Applied (Ok value) give old new = Stood old.faults new.faults × Draws give old new (Ok value)
 Applied (Err (Refused fault)) give old new =
     Stood old.faults new.faults × Draws give old new (Err fault)
 Applied (Err EntropyFault) give old new = RanOut give old new
 Applied {A} (Err NoMemory) give old new =
-    Stood old.faults new.faults × ((answer : Result A CmdFault) × Draws give old new answer)
+    Stood old.faults new.faults × ((answer : Result A EditRefusal) × Draws give old new answer)
 
 -- whole ids were drawn, of four bytes each, and at most 64 of them
 pub record DrewIds (old new : EntropyState) : Type 0 where
@@ -55,7 +55,7 @@ pub record LostBehindIds (old new : EntropyState) (most : ℕ) : Type 0 where
 
 -- Where the entropy failed, nothing was drawn of the id or the key at which it did: each is drawn in
 -- one fill, of at most 64 bytes, and what that may have taken is lost.
-abbrev pub DrawsWhole : {A : Type 0} → Result A CmdError → (old new : EntropyState) → Type 0
+abbrev pub DrawsWhole : {A : Type 0} → Result A EditError → (old new : EntropyState) → Type 0
 DrawsWhole (Err EntropyFault) old new = LostBehindIds old new 64
 DrawsWhole _ old new = Unit {0}
 
@@ -71,14 +71,14 @@ DrewId (Ok None) give old new = Stood old.faults new.faults × Draws give old ne
 DrewId (Err failed) give old new = RanOut give old new
 
 -- The keyset that an edit left, if it was accepted, or else the error.
-abbrev pub answer_with : Result (Unit {0}) CmdError → Keys → Result Keys CmdError
+abbrev pub answer_with : Result (Unit {0}) EditError → Keys → Result Keys EditError
 answer_with (Ok done) keys = Ok keys
 answer_with (Err error) keys = Err error
 
 -- The answer of an edit that draws nothing.
-abbrev pub Edited : Result Keys CmdError → Draw Keys → Type 0
+abbrev pub Edited : Result Keys EditError → Draw Keys → Type 0
 Edited (Ok keyset) give = (random : List ℕ) → give random ≡ answered (Ok keyset) random
 Edited (Err (Refused fault)) give = (random : List ℕ) → give random ≡ answered (Err fault) random
 Edited (Err EntropyFault) give = ⊥
 Edited (Err NoMemory) give =
-    (answer : Result Keys CmdFault) × ((random : List ℕ) → give random ≡ answered answer random)
+    (answer : Result Keys EditRefusal) × ((random : List ℕ) → give random ≡ answered answer random)

@@ -4,11 +4,11 @@
 --   fill       the next bytes, so many
 --   and_then   a step behind another one
 use Rattle.std.specs.Prelude.{ℕ, List, length, take, drop, nat_lt, Option, Some, None, Result, Ok, Err, if◌then◌else◌}
-use Rattle.tinkey_cmds.specs.declared.command.CmdFault.{CmdFault}
+use Rattle.tinkey_cmds.specs.declared.command.EditRefusal.{EditRefusal}
 
 -- an answer, and the random bytes that are left
 pub record Drawn (A : Type 0) : Type 0 where
-  pub answer : Result A CmdFault
+  pub answer : Result A EditRefusal
   pub left : List ℕ
 
 -- what draws bytes from the front of these; none where it would draw more than there are
@@ -16,7 +16,7 @@ abbrev pub Draw : Type 0 → Type 0
 Draw A = List ℕ → Option (Drawn A)
 
 -- this answer, with all bytes left
-abbrev pub answered : {A : Type 0} → Result A CmdFault → Draw A
+abbrev pub answered : {A : Type 0} → Result A EditRefusal → Draw A
 answered answer random = Some (record { answer = answer; left = random })
 
 -- the next bytes, so many
@@ -26,7 +26,7 @@ fill count random =
     else Some (record { answer = Ok (take count random); left = drop count random })
 
 -- what comes next, unless there is a refusal
-abbrev pub unless_err : {A B : Type 0} → Result A CmdFault → (left : List ℕ) → (A → Draw B)
+abbrev pub unless_err : {A B : Type 0} → Result A EditRefusal → (left : List ℕ) → (A → Draw B)
     → Option (Drawn B)
 unless_err (Ok value) left next = next value left
 unless_err (Err fault) left next = answered (Err fault) left

@@ -19,10 +19,10 @@ use Rattle.key_msgs.specs.Templates.{Row, seen, made, type_made, random_of}
 use Rattle.key_msgs.specs.Writing.{value_of}
 use Rattle.keyset_model.specs.declared.record.Record.{Record}
 use Rattle.keyset_model.specs.Keyset.{Keys, has_id, is_in, is_enabled, is_destroyed, is_primary, primary_of, first_some, when}
-use Rattle.tinkey_cmds.specs.declared.command.CmdFault.{CmdFault}
-use Rattle.tinkey_cmds.specs.declared.command.CmdFault.TheVariants.{KeyNotFound, KeyIsPrimary, KeyNotEnabled, KeyDestroyed, KeyRefused, MixedPrimitive, IdsExhausted, TooManyKeys, AmbiguousPrimary}
-use Rattle.tinkey_cmds.specs.declared.command.Command.{Command}
-use Rattle.tinkey_cmds.specs.declared.command.Command.TheVariants as commands
+use Rattle.tinkey_cmds.specs.declared.command.EditRefusal.{EditRefusal}
+use Rattle.tinkey_cmds.specs.declared.command.EditRefusal.TheVariants.{KeyNotFound, KeyIsPrimary, KeyNotEnabled, KeyDestroyed, KeyRefused, MixedPrimitive, IdsExhausted, TooManyKeys, AmbiguousPrimary}
+use Rattle.tinkey_cmds.specs.declared.command.KeysetEdit.{KeysetEdit}
+use Rattle.tinkey_cmds.specs.declared.command.KeysetEdit.TheVariants as commands
 use Rattle.tinkey_cmds.specs.Draws.{Drawn, Draw, answered, fill, and_then}
 
 -- an edit, by a template or the id of a record
@@ -35,7 +35,7 @@ abbrev pub Edit : Type 0
 Edit = EditOf Row
 
 -- the edit of a command
-abbrev pub seen_by : {T A : Type 0} → (T → A) → Command T → EditOf A
+abbrev pub seen_by : {T A : Type 0} → (T → A) → KeysetEdit T → EditOf A
 seen_by see (commands.Add template) = Add (see template)
 seen_by see (commands.Rotate template) = Rotate (see template)
 seen_by see (commands.Promote id) = Promote id
@@ -45,7 +45,7 @@ seen_by see (commands.Destroy id) = Destroy id
 seen_by see (commands.Delete id) = Delete id
 
 -- the edit that a command of the code stands for
-abbrev pub seen_edit : Command Template → Edit
+abbrev pub seen_edit : KeysetEdit Template → Edit
 seen_edit command = seen_by seen command
 
 -- what comes of an edit, behind what is found by its template
@@ -134,12 +134,12 @@ without id [] = []
 without id (r ∷ later) = if has_id id r then later else r ∷ without id later
 
 -- the refusals of an edit of one record, in order
-unfoldable pub of_named : Option Record → (Record → List (Option CmdFault)) → Option CmdFault
+unfoldable pub of_named : Option Record → (Record → List (Option EditRefusal)) → Option EditRefusal
 of_named None refusals = Some KeyNotFound
 of_named (Some r) refusals = first_some (refusals r)
 
 -- the refusals of a new record, in order
-unfoldable pub full_or_mixed : Keys → Row → Option CmdFault
+unfoldable pub full_or_mixed : Keys → Row → Option EditRefusal
 full_or_mixed keys row = first_some (
     when (nat_le 1000 (length keys.records)) TooManyKeys
     ∷ when (not (is_same (primary_primitive keys) (Some (primitive_of_type (type_made row)))))
@@ -147,7 +147,7 @@ full_or_mixed keys row = first_some (
     ∷ [])
 
 -- the first refusal, in order; IdsExhausted comes later, with the draws
-unfoldable pub refusal_of : Keys → Edit → Option CmdFault
+unfoldable pub refusal_of : Keys → Edit → Option EditRefusal
 refusal_of keys (Add row) = full_or_mixed keys row
 refusal_of keys (Rotate row) = full_or_mixed keys row
 refusal_of keys (Promote id) = of_named (named keys id) (λ r.
@@ -214,7 +214,7 @@ abbrev pub Stepped : Type 0
 Stepped = Drawn Keys
 
 -- the effect, unless there is a refusal
-abbrev pub unless_refused : Option CmdFault → Draw Keys → Draw Keys
+abbrev pub unless_refused : Option EditRefusal → Draw Keys → Draw Keys
 unless_refused (Some fault) effect random = answered (Err fault) random
 unless_refused None effect random = effect random
 

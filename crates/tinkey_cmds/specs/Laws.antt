@@ -5,8 +5,8 @@ use Rattle.key_msgs.specs.Templates.{Row, templates}
 use Rattle.keyset_model.specs.declared.record.Record.{Record}
 use Rattle.keyset_model.specs.Keyset.{Keys, is_in, fault_of}
 use Rattle.keyset_model.specs.Writing.{HasWireBounds}
-use Rattle.tinkey_cmds.specs.declared.command.CmdFault.{CmdFault}
-use Rattle.tinkey_cmds.specs.declared.command.CmdFault.TheVariants.{IdsExhausted}
+use Rattle.tinkey_cmds.specs.declared.command.EditRefusal.{EditRefusal}
+use Rattle.tinkey_cmds.specs.declared.command.EditRefusal.TheVariants.{IdsExhausted}
 use Rattle.tinkey_cmds.specs.Draws.{Draw, Drawn, answered}
 use Rattle.tinkey_cmds.specs.Edits.{Edit, Add, Rotate, Promote, Enable, Disable, Destroy, Delete, Stepped, step, first, with_status, destroyed}
 
@@ -129,5 +129,5 @@ EditsDrawFronts =
 
 -- A refusal leaves all bytes, unless no draw gave a new id.
 abbrev pub RefusalsDrawNothing : Type 0
-RefusalsDrawNothing = (keys : Keys) (edit : Edit) (random : List ℕ) (s : Stepped) (fault : CmdFault)
+RefusalsDrawNothing = (keys : Keys) (edit : Edit) (random : List ℕ) (s : Stepped) (fault : EditRefusal)
     → step keys edit random ≡ Some s → s.answer ≡ Err fault → fault ≢ IdsExhausted → s.left ≡ random

@@ -10,7 +10,7 @@ ghost use Rattle.tinkey_cmds.specs.Laws.{IsTemplate};
 
 use crate::drawing::new_record;
 use crate::editing::{delete, destroy, disable, enable, is_same, primary_primitive, promote};
-use crate::{CmdError, CmdFault, Command};
+use crate::{EditError, EditRefusal, KeysetEdit};
 use key_msgs::Template;
 use keyset_model::{Keyset, Record};
 use std::alloc::Global;
@@ -30,7 +30,7 @@ pub fn create<E: Entropy>(
     alloc: Global,
     template: &Template,
     entropy: &mut E,
-) -> Result<Keyset, CmdError>
+) -> Result<Keyset, EditError>
     ensures first { Applied result (first (seen template.now))
         (E.state entropy.old) (E.state entropy.new) }
     ensures whole { DrawsWhole result (E.state entropy.old) (E.state entropy.new) }
@@ -43,7 +43,7 @@ pub fn create<E: Entropy>(
     let primary = key.id;
     let records = match alone(alloc, key) {
         Ok(records) => records,
-        Err(NoMemory) => return Err(CmdError::NoMemory),
+        Err(NoMemory) => return Err(EditError::NoMemory),
     };
     Ok(rebuilt(primary, records))
 }
@@ -60,9 +60,9 @@ pub fn create<E: Entropy>(
 pub fn apply<E: Entropy>(
     alloc: Global,
     keyset: &mut Keyset,
-    command: &Command<Template>,
+    command: &KeysetEdit<Template>,
     entropy: &mut E,
-) -> Result<(), CmdError>
+) -> Result<(), EditError>
     ensures step { Applied (answer_with result keyset.new)
         (step keyset.old (seen_edit command.now)) (E.state entropy.old) (E.state entropy.new) }
     ensures kept { OnErr result (keyset.new ≡ keyset.old) }
@@ -71,13 +71,13 @@ pub fn apply<E: Entropy>(
         AllByRecursion IsShort keyset.new.records }
 {
     match *command {
-        Command::Add(template) => add(alloc, keyset, &template, entropy),
-        Command::Rotate(template) => rotate(alloc, keyset, &template, entropy),
-        Command::Promote(id) => promote(keyset, id),
-        Command::Enable(id) => enable(alloc, keyset, id),
-        Command::Disable(id) => disable(keyset, id),
-        Command::Destroy(id) => destroy(alloc, keyset, id),
-        Command::Delete(id) => delete(keyset, id),
+        KeysetEdit::Add(template) => add(alloc, keyset, &template, entropy),
+        KeysetEdit::Rotate(template) => rotate(alloc, keyset, &template, entropy),
+        KeysetEdit::Promote(id) => promote(keyset, id),
+        KeysetEdit::Enable(id) => enable(alloc, keyset, id),
+        KeysetEdit::Disable(id) => disable(keyset, id),
+        KeysetEdit::Destroy(id) => destroy(alloc, keyset, id),
+        KeysetEdit::Delete(id) => delete(keyset, id),
     }
 }
 
@@ -87,7 +87,7 @@ fn add<E: Entropy>(
     keyset: &mut Keyset,
     template: &Template,
     entropy: &mut E,
-) -> Result<(), CmdError>
+) -> Result<(), EditError>
     ensures known { OnOk result (IsTemplate (seen template.now)) }
     ensures step { Applied (answer_with result keyset.new)
         (step keyset.old (Add (seen template.now))) (E.state entropy.old) (E.state entropy.new) }
@@ -95,7 +95,7 @@ fn add<E: Entropy>(
     ensures whole { DrawsWhole result (E.state entropy.old) (E.state entropy.new) }
 {
     if let Some(fault) = full_or_mixed(keyset, template) {
-        return Err(CmdError::Refused(fault));
+        return Err(EditError::Refused(fault));
     }
     let key = match new_record(alloc, template, Some(&*keyset), entropy) {
         Ok(key) => key,
@@ -103,7 +103,7 @@ fn add<E: Entropy>(
     };
     match keyset.push(key) {
         Ok(()) => Ok(()),
-        Err(NoMemory) => Err(CmdError::NoMemory),
+        Err(NoMemory) => Err(EditError::NoMemory),
     }
 }
 
@@ -113,7 +113,7 @@ fn rotate<E: Entropy>(
     keyset: &mut Keyset,
     template: &Template,
     entropy: &mut E,
-) -> Result<(), CmdError>
+) -> Result<(), EditError>
     ensures known { OnOk result (IsTemplate (seen template.now)) }
     ensures step { Applied (answer_with result keyset.new)
         (step keyset.old (Rotate (seen template.now))) (E.state entropy.old) (E.state entropy.new) }
@@ -121,7 +121,7 @@ fn rotate<E: Entropy>(
     ensures whole { DrawsWhole result (E.state entropy.old) (E.state entropy.new) }
 {
     if let Some(fault) = full_or_mixed(keyset, template) {
-        return Err(CmdError::Refused(fault));
+        return Err(EditError::Refused(fault));
     }
     let key = match new_record(alloc, template, Some(&*keyset), entropy) {
         Ok(key) => key,
@@ -130,22 +130,22 @@ fn rotate<E: Entropy>(
     let new_primary = key.id;
     match keyset.push(key) {
         Ok(()) => {}
-        Err(NoMemory) => return Err(CmdError::NoMemory),
+        Err(NoMemory) => return Err(EditError::NoMemory),
     }
     keyset.set_primary(new_primary);
     Ok(())
 }
 
 /// Why a keyset takes no key of a template, whatever bytes are drawn.
-fn full_or_mixed(keyset: &Keyset, template: &Template) -> Option<CmdFault>
+fn full_or_mixed(keyset: &Keyset, template: &Template) -> Option<EditRefusal>
     ensures fault { result ≡ full_or_mixed keyset.now (seen template.now) }
     ensures faultless { fault_of keyset.now ≡ None }
 {
     if keyset.len() >= MOST_RECORDS {
-        return Some(CmdFault::TooManyKeys);
+        return Some(EditRefusal::TooManyKeys);
     }
     if !is_same(primary_primitive(keyset), Some(template.primitive())) {
-        return Some(CmdFault::MixedPrimitive);
+        return Some(EditRefusal::MixedPrimitive);
     }
     None
 }

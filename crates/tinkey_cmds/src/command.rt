@@ -8,7 +8,7 @@ use tink_base::NoMemory;
 /// An edit of a keyset, with a template or a template's name. An id names the first record that has
 /// it.
 #[derive(Clone, Copy)]
-pub enum Command<T> {
+pub enum KeysetEdit<T> {
     /// Adds a new key of this template at the end.
     Add(T),
     /// The same, and makes the new key primary.
@@ -27,7 +27,7 @@ pub enum Command<T> {
 
 /// Why an edit is refused.
 #[derive(Clone, Copy, Debug, PartialEq, Eq)]
-pub enum CmdFault {
+pub enum EditRefusal {
     /// No record has the id.
     KeyNotFound,
     /// The id is the primary id.
@@ -50,21 +50,21 @@ pub enum CmdFault {
 
 /// Why an edit gives no keyset.
 #[derive(Clone, Copy, Debug, PartialEq, Eq)]
-pub enum CmdError {
+pub enum EditError {
     /// The edit is refused.
-    Refused(CmdFault),
+    Refused(EditRefusal),
     /// The entropy failed.
     EntropyFault,
     /// Memory couldn't be allocated.
     NoMemory,
 }
 
-impl From<NoMemory> for CmdError {
-    ghost use Rattle.tinkey_cmds.specs.declared.command.CmdError.TheVariants as errors;
+impl From<NoMemory> for EditError {
+    ghost use Rattle.tinkey_cmds.specs.declared.command.EditError.TheVariants as errors;
 
     ghost from_gives = { λ _ error. error ≡ errors.NoMemory };
 
-    fn from(_error: NoMemory) -> CmdError {
-        CmdError::NoMemory
+    fn from(_error: NoMemory) -> EditError {
+        EditError::NoMemory
     }
 }

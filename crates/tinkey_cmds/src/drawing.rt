@@ -9,7 +9,7 @@ ghost use Rattle.tinkey_cmds.specs.Applying.{Applied, DrawsWhole, DrewId, DrewId
 ghost use Rattle.tinkey_cmds.specs.Edits.{is_taken, new_id, new_record, record_of};
 ghost use Rattle.tinkey_cmds.specs.Laws.{IsTemplate};
 
-use crate::{CmdError, CmdFault};
+use crate::{EditError, EditRefusal};
 use key_msgs::{Template, make_key, write_key};
 use keyset_model::{Keyset, Record};
 use std::alloc::Global;
@@ -109,7 +109,7 @@ pub(crate) fn new_record<E: Entropy>(
     template: &Template,
     keyset: Option<&Keyset>,
     entropy: &mut E,
-) -> Result<Record, CmdError>
+) -> Result<Record, EditError>
     ensures known { IsTemplate (seen template.now) }
     ensures drawn { Applied result
         (new_record (seen template.now) (records_in (option_copied keyset.entry)))
@@ -120,16 +120,16 @@ pub(crate) fn new_record<E: Entropy>(
     let size = random_len(template);
     let id = match draw_id(keyset, entropy) {
         Ok(Some(id)) => id,
-        Ok(None) => return Err(CmdError::Refused(CmdFault::IdsExhausted)),
-        Err(Failed) => return Err(CmdError::EntropyFault),
+        Ok(None) => return Err(EditError::Refused(EditRefusal::IdsExhausted)),
+        Err(Failed) => return Err(EditError::EntropyFault),
     };
     let mut material = [0u8; MOST_RANDOM];
     match draw_key(size, &mut material, entropy) {
         Ok(()) => {}
-        Err(Failed) => return Err(CmdError::EntropyFault),
+        Err(Failed) => return Err(EditError::EntropyFault),
     }
     match record_of(alloc, template, id, &material[..size]) {
         Ok(key) => Ok(key),
-        Err(NoMemory) => Err(CmdError::NoMemory),
+        Err(NoMemory) => Err(EditError::NoMemory),
     }
 }

@@ -7,103 +7,103 @@ ghost use Rattle.keyset_model.specs.Keyset.{has_id, is_enabled, is_primary};
 ghost use Rattle.tinkey_cmds.specs.Applying.{Edited, answer_with};
 ghost use Rattle.tinkey_cmds.specs.Edits.{Promote, Enable, Disable, Destroy, Delete, step, without, is_same, primary_primitive, rule_of};
 
-use crate::{CmdError, CmdFault};
+use crate::{EditError, EditRefusal};
 use key_msgs::{KeyFault, Primitive, Rule, primitive_of, read_key};
 use keyset_model::{Keyset, Record};
 use std::alloc::Global;
 use tink_base::{DESTROYED, DISABLED, ENABLED, NoMemory};
 
 /// Makes a record primary.
-pub(crate) fn promote(keyset: &mut Keyset, id: u32) -> Result<(), CmdError>
+pub(crate) fn promote(keyset: &mut Keyset, id: u32) -> Result<(), EditError>
     ensures step { Edited (answer_with result keyset.new) (step keyset.old (Promote id)) }
     ensures kept { OnErr result (keyset.new ≡ keyset.old) }
 {
     let place = match keyset.find(id) {
         Some(place) => place,
-        None => return Err(CmdError::Refused(CmdFault::KeyNotFound)),
+        None => return Err(EditError::Refused(EditRefusal::KeyNotFound)),
     };
     if keyset.record_at(place).status != ENABLED {
-        return Err(CmdError::Refused(CmdFault::KeyNotEnabled));
+        return Err(EditError::Refused(EditRefusal::KeyNotEnabled));
     }
     if has_other(keyset, id, place) {
-        return Err(CmdError::Refused(CmdFault::AmbiguousPrimary));
+        return Err(EditError::Refused(EditRefusal::AmbiguousPrimary));
     }
     keyset.set_primary(id);
     Ok(())
 }
 
 /// Makes a record ENABLED.
-pub(crate) fn enable(alloc: Global, keyset: &mut Keyset, id: u32) -> Result<(), CmdError>
+pub(crate) fn enable(alloc: Global, keyset: &mut Keyset, id: u32) -> Result<(), EditError>
     ensures step { Edited (answer_with result keyset.new) (step keyset.old (Enable id)) }
     ensures kept { OnErr result (keyset.new ≡ keyset.old) }
 {
     let place = match keyset.find(id) {
         Some(place) => place,
-        None => return Err(CmdError::Refused(CmdFault::KeyNotFound)),
+        None => return Err(EditError::Refused(EditRefusal::KeyNotFound)),
     };
     let key = keyset.record_at(place);
     if key.status == DESTROYED {
-        return Err(CmdError::Refused(CmdFault::KeyDestroyed));
+        return Err(EditError::Refused(EditRefusal::KeyDestroyed));
     }
     if is_rival(keyset, id, key) {
-        return Err(CmdError::Refused(CmdFault::AmbiguousPrimary));
+        return Err(EditError::Refused(EditRefusal::AmbiguousPrimary));
     }
     if !is_same(primitive_of(key.url.as_str()), primary_primitive(keyset)) {
-        return Err(CmdError::Refused(CmdFault::MixedPrimitive));
+        return Err(EditError::Refused(EditRefusal::MixedPrimitive));
     }
     if let Some(rule) = broken_rule(alloc, key)? {
-        return Err(CmdError::Refused(CmdFault::KeyRefused(rule)));
+        return Err(EditError::Refused(EditRefusal::KeyRefused(rule)));
     }
     keyset.set_status(place, ENABLED);
     Ok(())
 }
 
 /// Makes a record DISABLED.
-pub(crate) fn disable(keyset: &mut Keyset, id: u32) -> Result<(), CmdError>
+pub(crate) fn disable(keyset: &mut Keyset, id: u32) -> Result<(), EditError>
     ensures step { Edited (answer_with result keyset.new) (step keyset.old (Disable id)) }
     ensures kept { OnErr result (keyset.new ≡ keyset.old) }
 {
     let place = match keyset.find(id) {
         Some(place) => place,
-        None => return Err(CmdError::Refused(CmdFault::KeyNotFound)),
+        None => return Err(EditError::Refused(EditRefusal::KeyNotFound)),
     };
     if id == keyset.primary() {
-        return Err(CmdError::Refused(CmdFault::KeyIsPrimary));
+        return Err(EditError::Refused(EditRefusal::KeyIsPrimary));
     }
     if keyset.record_at(place).status == DESTROYED {
-        return Err(CmdError::Refused(CmdFault::KeyDestroyed));
+        return Err(EditError::Refused(EditRefusal::KeyDestroyed));
     }
     keyset.set_status(place, DISABLED);
     Ok(())
 }
 
 /// Makes a record DESTROYED, with no key data.
-pub(crate) fn destroy(alloc: Global, keyset: &mut Keyset, id: u32) -> Result<(), CmdError>
+pub(crate) fn destroy(alloc: Global, keyset: &mut Keyset, id: u32) -> Result<(), EditError>
     ensures step { Edited (answer_with result keyset.new) (step keyset.old (Destroy id)) }
     ensures kept { OnErr result (keyset.new ≡ keyset.old) }
 {
     let place = match keyset.find(id) {
         Some(place) => place,
-        None => return Err(CmdError::Refused(CmdFault::KeyNotFound)),
+        None => return Err(EditError::Refused(EditRefusal::KeyNotFound)),
     };
     if id == keyset.primary() {
-        return Err(CmdError::Refused(CmdFault::KeyIsPrimary));
+        return Err(EditError::Refused(EditRefusal::KeyIsPrimary));
     }
     keyset.destroy(alloc, place);
     Ok(())
 }
 
 /// Removes a record.
-pub(crate) fn delete(keyset: &mut Keyset, id: u32) -> Result<(), CmdError>
+pub(crate) fn delete(keyset: &mut Keyset, id: u32) -> Result<(), EditError>
     ensures step { Edited (answer_with result keyset.new) (step keyset.old (Delete id)) }
     ensures kept { OnErr result (keyset.new ≡ keyset.old) }
 {
     let place = match keyset.find(id) {
         Some(place) => place,
-        None => return Err(CmdError::Refused(CmdFault::KeyNotFound)),
+        None => return Err(EditError::Refused(EditRefusal::KeyNotFound)),
     };
     if id == keyset.primary() {
-        return Err(CmdError::Refused(CmdFault::KeyIsPrimary));
+        return Err(EditError::Refused(EditRefusal::KeyIsPrimary));
     }
     keyset.remove(place);
     Ok(())

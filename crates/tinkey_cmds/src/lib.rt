@@ -8,4 +8,4 @@ mod editing;
 pub mod laws;
 
 pub use applying::{apply, create};
-pub use command::{CmdError, CmdFault, Command};
+pub use command::{EditError, EditRefusal, KeysetEdit};

@@ -9,7 +9,7 @@ use Rattle.tinkey_host.specs.declared.terminals.Terminals.{Terminals}
 use Rattle.tinkey_words.specs.declared.words.misuse.Misuse.{Misuse}
 use Rattle.tinkey_words.specs.declared.words.rows.Format.{Format}
 use Rattle.tinkey_words.specs.declared.words.rows.Format.TheVariants as formats
-use Rattle.tinkey_words.specs.Words.{Asked, AskedEnvelope, AskedWork, Lock, NewLock, Output, Place, as_taken, in_clear, under, create_keyset, edit_keyset, list_keyset, key_of, convert_keyset, list_key_templates, use_keyset, use_envelope, seal_stream, open_stream, reseal_stream, open_range, self_test, session, help, version, to_seal, to_open, to_dseal, to_dopen, to_reseal, to_dreseal, to_tag, to_verify, to_derive, to_eseal, to_eopen, to_ereseal, words_of}
+use Rattle.tinkey_words.specs.Words.{Asked, AskedEnvelope, AskedWork, Lock, NewLock, Output, KeysetFile, as_taken, in_clear, under, create_keyset, edit_keyset, list_keyset, key_of, convert_keyset, list_key_templates, use_keyset, use_envelope, seal_stream, open_stream, reseal_stream, open_range, self_test, session, help, version, to_seal, to_open, to_dseal, to_dopen, to_reseal, to_dreseal, to_tag, to_verify, to_derive, to_eseal, to_eopen, to_ereseal, words_of}
 
 -- this form of a keyset is text
 abbrev pub is_text : Format → Bool
@@ -17,7 +17,7 @@ is_text formats.Json = true
 is_text formats.Binary = false
 
 -- A terminal may show an encrypted keyset as JSON. One in clear holds keys, and the binary form isn't text.
-abbrev pub shows_keyset : (encrypted : Bool) → Place → Bool
+abbrev pub shows_keyset : (encrypted : Bool) → KeysetFile → Bool
 shows_keyset encrypted place = is_some place.file || (encrypted && is_text place.form)
 
 -- a keyset that is put elsewhere is encrypted there

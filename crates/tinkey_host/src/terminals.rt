@@ -7,7 +7,7 @@ ghost use Rattle.tinkey_host.specs.Terminals.{gives_plaintext, is_kept_off, is_r
 
 use crate::not_text::write_lines;
 use tink_base::Sink;
-use tinkey_words::{Envelope, Format, Master, NewLock, Output, Place, Request, Work, parse};
+use tinkey_words::{Envelope, Format, KeysetFile, Master, NewLock, Output, Request, Work, parse};
 
 /// Which of the standard streams are terminals.
 #[derive(Clone, Copy, Debug, PartialEq, Eq)]
@@ -112,7 +112,7 @@ fn reads_input(request: &Request<'_>) -> bool
 }
 
 /// Whether a terminal may show a keyset that is put there.
-fn shows_keyset(encrypted: bool, output: Place<'_>) -> bool
+fn shows_keyset(encrypted: bool, output: KeysetFile<'_>) -> bool
     ensures { result ≡ shows_keyset encrypted (seen_place output.entry) }
 {
     output.file.is_some() || (encrypted && is_text(output.form))

@@ -10,8 +10,8 @@ use Rattle.keyset_model.specs.Keyset.{Keys}
 use Rattle.keyset_model.specs.declared.record.Record.{Record}
 use Rattle.tinkey_cmds.specs.Draws.{Drawn, Draw, answered, fill, unless_err, and_then}
 use Rattle.tinkey_cmds.specs.Edits.{Stepped, alone, first, id_of, is_taken, new_id, record_of, with_key}
-use Rattle.tinkey_cmds.specs.declared.command.CmdFault.{CmdFault}
-use Rattle.tinkey_cmds.specs.declared.command.CmdFault.TheVariants.{IdsExhausted}
+use Rattle.tinkey_cmds.specs.declared.command.EditRefusal.{EditRefusal}
+use Rattle.tinkey_cmds.specs.declared.command.EditRefusal.TheVariants.{IdsExhausted}
 use Rattle.tinkey_session.proofs.Options.{no_truth}
 use Rattle.tinkey_session.specs.declared.reply.Refusal.TheVariants.{Command}
 use Rattle.tinkey_selftest.specs.Laws.{CountsAddUp, EntropySuffices, NothingIsLost}
@@ -30,7 +30,7 @@ use Rattle.tinkey_plans.specs.SelfTesting.{tells_counts}
 -- ---- the refusal of a first keyset
 
 -- the only refusal is that no draw gave an id
-abbrev IsExhausted : {A : Type 0} → Result A CmdFault → Type 0
+abbrev IsExhausted : {A : Type 0} → Result A EditRefusal → Type 0
 IsExhausted (Ok value) = Unit {0}
 IsExhausted (Err fault) = fault ≡ IdsExhausted
 
@@ -38,7 +38,7 @@ abbrev OnlyExhausted : {A : Type 0} → Option (Drawn A) → Type 0
 OnlyExhausted None = Unit {0}
 OnlyExhausted (Some drawn) = IsExhausted drawn.answer
 
-only-next : {A B : Type 0} (answer : Result A CmdFault) (left : List ℕ) (next : A → Draw B) → IsExhausted answer → ((x : A) (random : List ℕ) → OnlyExhausted (next x random)) → OnlyExhausted (unless_err answer left next)
+only-next : {A B : Type 0} (answer : Result A EditRefusal) (left : List ℕ) (next : A → Draw B) → IsExhausted answer → ((x : A) (random : List ℕ) → OnlyExhausted (next x random)) → OnlyExhausted (unless_err answer left next)
 only-next (Ok x) left next is each = each x left
 only-next (Err fault) left next is each = is
 
@@ -70,7 +70,7 @@ only-first row random =
 -- ---- where it comes
 
 -- it is refused where this is so, and only there
-abbrev IsRefusedWhere : {A : Type 0} → Type 0 → Result A CmdFault → Type 0
+abbrev IsRefusedWhere : {A : Type 0} → Type 0 → Result A EditRefusal → Type 0
 IsRefusedWhere Cause (Ok value) = Cause → ⊥
 IsRefusedWhere Cause (Err fault) = Cause
 
@@ -94,7 +94,7 @@ later_group random i =
     ap (λ n. id_of (take 4 (drop n random))) place ∙ ap (λ (l : List ℕ). id_of (take 4 l)) (sym (drop-drop (4 * i) 4 random))
 
 -- a group that is 0 is passed
-one_more : {A : Type 0} (tries : ℕ) (random : List ℕ) (r : Result A CmdFault) → id_of (take 4 random) ≡ 0 → IsRefusedWhere (AreZero tries (drop 4 random)) r → IsRefusedWhere (AreZero (suc tries) random) r
+one_more : {A : Type 0} (tries : ℕ) (random : List ℕ) (r : Result A EditRefusal) → id_of (take 4 random) ≡ 0 → IsRefusedWhere (AreZero tries (drop 4 random)) r → IsRefusedWhere (AreZero (suc tries) random) r
 one_more tries random (Ok value) first some = λ all. some (λ i below. sym (later_group random i) ∙ all (suc i) (omega (arith, below)))
 one_more tries random (Err fault) first zeros = each
   where
@@ -128,8 +128,8 @@ then_where : {A B : Type 0} (Cause : Type 0) (o : Option (Drawn A)) (next : A �
 then_where Cause None next drawn first goes e = absurd (cc)
 then_where {A} {B} Cause (Some x) next drawn first goes e = by x.answer (first x refl) e
   where
-    by : (r : Result A CmdFault) → IsRefusedWhere Cause r → unless_err r x.left next ≡ Some drawn → IsRefusedWhere Cause drawn.answer
-    by (Ok value) some e = let y = goes value x.left drawn e in subst (λ (r : Result B CmdFault). IsRefusedWhere Cause r) (sym y.1) some
+    by : (r : Result A EditRefusal) → IsRefusedWhere Cause r → unless_err r x.left next ≡ Some drawn → IsRefusedWhere Cause drawn.answer
+    by (Ok value) some e = let y = goes value x.left drawn e in subst (λ (r : Result B EditRefusal). IsRefusedWhere Cause r) (sym y.1) some
     by (Err fault) is e = subst (λ (y : Drawn B). IsRefusedWhere Cause y.answer) (same_Some _ _ e) is
 
 key_goes : (row : Row) (id : ℕ) (random : List ℕ) (drawn : Drawn Record) → with_key row id random ≡ Some drawn → (r : Record) × (drawn.answer ≡ Ok r)
@@ -145,7 +145,7 @@ first_where row random s e = then_where (AreZero 64 random) (and_then (new_id 64
     (λ r left y is. (alone r, sym (ap (λ (x : Stepped). x.answer) (same_Some _ _ is))))
     e
 
-from_where : (Cause : Type 0) (table : Table) (seed lines : ℕ) (answer : Result Keys CmdFault) (left : List ℕ) → IsRefusedWhere Cause answer → IsRefusedWhere Cause (counts_from table seed lines answer left)
+from_where : (Cause : Type 0) (table : Table) (seed lines : ℕ) (answer : Result Keys EditRefusal) (left : List ℕ) → IsRefusedWhere Cause answer → IsRefusedWhere Cause (counts_from table seed lines answer left)
 from_where Cause table seed lines (Ok keys) left some = some
 from_where Cause table seed lines (Err fault) left is = is
 
@@ -157,7 +157,7 @@ refused_where suffices table seed lines =
 
 -- ---- what is counted
 
-only-from : (table : Table) (seed lines : ℕ) (answer : Result Keys CmdFault) (left : List ℕ) → IsExhausted answer → IsExhausted (counts_from table seed lines answer left)
+only-from : (table : Table) (seed lines : ℕ) (answer : Result Keys EditRefusal) (left : List ℕ) → IsExhausted answer → IsExhausted (counts_from table seed lines answer left)
 only-from table seed lines (Ok keys) left is = tt
 only-from table seed lines (Err fault) left is = is
 
@@ -179,15 +179,15 @@ tells adds lost table seed lines n is = record {
 pub self_tests_tell : CountsAddUp → NothingIsLost → EntropySuffices → SelfTestsTell
 self_tests_tell adds lost suffices table seed lines told = by (trial.self_test table seed lines) refl (only_exhausted table seed lines) (refused_where suffices table seed lines)
   where
-    by : (r : Result Counts CmdFault) → trial.self_test table seed lines ≡ r → IsExhausted r → IsRefusedWhere (HasNoId seed lines) r → TellsOrRefuses table seed lines (answer (tells_counts lines r writes) told)
+    by : (r : Result Counts EditRefusal) → trial.self_test table seed lines ≡ r → IsExhausted r → IsRefusedWhere (HasNoId seed lines) r → TellsOrRefuses table seed lines (answer (tells_counts lines r writes) told)
     by (Ok n) is only some = inl (some, refl, tells adds lost table seed lines n is)
-    by (Err fault) is only none = inr (none, ap (λ (f : CmdFault). status.Refused (Command f)) only, refl)
+    by (Err fault) is only none = inr (none, ap (λ (f : EditRefusal). status.Refused (Command f)) only, refl)
 
 pub self_test_runs : CountsAddUp → NothingIsLost → EntropySuffices → SelfTestRuns
 self_test_runs adds lost suffices table words seed lines old s new is run = by (trial.self_test table seed lines) refl (only_exhausted table seed lines) (refused_where suffices table seed lines) (subst (λ p. Ends p old s new) (ap (λ r. asked_plan table r words) is) run)
   where
-    by : (r : Result Counts CmdFault) → trial.self_test table seed lines ≡ r → IsExhausted r → IsRefusedWhere (HasNoId seed lines) r → Ends (tells_counts lines r writes) old s new → HasTested table seed lines old s new
+    by : (r : Result Counts EditRefusal) → trial.self_test table seed lines ≡ r → IsExhausted r → IsRefusedWhere (HasNoId seed lines) r → Ends (tells_counts lines r writes) old s new → HasTested table seed lines old s new
     by r is only at (inr (e, same)) = starved e same
     by (Ok n) is only some (inl (wrote e keep stood took)) = tested (counts_text lines n) e (tells adds lost table seed lines n is) took
     by (Ok n) is only some (inl (write_failed e keep rose front)) = cut_short (counts_text lines n) e (tells adds lost table seed lines n is) front
-    by (Err fault) is only none (inl (e, same)) = refused none (e ∙ ap (λ (f : CmdFault). status.Refused (Command f)) only) same
+    by (Err fault) is only none (inl (e, same)) = refused none (e ∙ ap (λ (f : EditRefusal). status.Refused (Command f)) only) same

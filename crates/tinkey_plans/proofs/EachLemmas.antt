@@ -9,7 +9,7 @@ use Rattle.keyset_model.specs.Reading.{Refusal, Wire, Fault, reads_binary}
 use Rattle.managers.specs.Table.{Table}
 use Rattle.tinkey_cmds.specs.Draws.{Draw}
 use Rattle.tinkey_cmds.specs.Edits.{Edit}
-use Rattle.tinkey_cmds.specs.declared.command.CmdFault.{CmdFault}
+use Rattle.tinkey_cmds.specs.declared.command.EditRefusal.{EditRefusal}
 use Rattle.tinkey_session.specs.Serving.{edit_named, or_refused}
 use Rattle.tinkey_session.specs.declared.reply.Refusal.{Refusal as Why}
 use Rattle.wrapped_prims.specs.Answers.{open_answer, dopen_answer, verify_answer, derive_answer}
@@ -32,7 +32,7 @@ use Rattle.tinkey_plans.specs.declared.sealer.Unopened.TheVariants as unopened
 use Rattle.tinkey_plans.specs.Wrapping.{is_json, is_keyset, keyset_sealer, makes_wrapped, with_unwrapped, wrapped_limit, wraps}
 use Rattle.seal_wrap.specs.Unwrapped as unwrapped
 use Rattle.seal_wrap.specs.Unwrapped.{is_wrapped_binary, is_wrapped_json, unwrap_of}
-use Rattle.tinkey_words.specs.Words.{AskedEdit, AskedEnvelope, AskedWork, Lock, Master, NewLock, Place, as_taken, in_clear, under, to_eseal, to_eopen, to_ereseal, to_seal, to_open, to_dseal, to_dopen, to_reseal, to_dreseal, to_tag, to_verify, to_derive}
+use Rattle.tinkey_words.specs.Words.{AskedEdit, AskedEnvelope, AskedWork, Lock, Master, NewLock, KeysetFile, as_taken, in_clear, under, to_eseal, to_eopen, to_ereseal, to_seal, to_open, to_dseal, to_dopen, to_reseal, to_dreseal, to_tag, to_verify, to_derive}
 use Rattle.tinkey_plans.specs.Plan.{IsStated, Made, Of, allocates, draws, envelopings, sealings}
 use Rattle.tinkey_plans.specs.declared.status.Status.{Status}
 use Rattle.key_msgs.specs.KeyTypes.{primitive_of_type}
@@ -43,8 +43,8 @@ use Rattle.managers.specs.Schemes.{Scheme}
 use Rattle.seal_wrap.specs.Enveloped.{Parts, envelope, open_envelope_of, parts_in}
 use Rattle.segment_stream.specs.Range.{stream_failed, past_end}
 use Rattle.tinkey_plans.specs.KeyOf.{with_lines}
-use Rattle.tinkey_plans.specs.Ranging.{with_stretch}
-use Rattle.tinkey_plans.specs.Stretch.{Opened}
+use Rattle.tinkey_plans.specs.Ranging.{with_range}
+use Rattle.tinkey_plans.specs.FileRange.{Opened}
 use Rattle.tinkey_plans.specs.Envelopes.{envelopes, finds_dek, seals_envelope, with_aead, with_enveloped, with_parts, with_scheme}
 
 -- the rest of a plan is so, whatever it takes
@@ -59,7 +59,7 @@ pub record IsClosed (P : Plan → Type 0) : Type 0 where
 -- a plan that draws this is so where all that follows is
 abbrev pub IsClosedAt : (P : Plan → Type 0) (kind : Made) → Draw (Of kind) → Type 0
 IsClosedAt P kind give =
-    (next : Result (Of kind) CmdFault → Plan) → AreAll P next → P (draws kind give next)
+    (next : Result (Of kind) EditRefusal → Plan) → AreAll P next → P (draws kind give next)
 
 ended_each : (P : Plan → Type 0) → IsClosed P → (b : Bool) (s t : Status) (a : IsStated s) (other : IsStated t) → P (if b then ends s a else ends t other)
 ended_each P c true s t a other = c.ended s a
@@ -98,7 +98,7 @@ edit_each P c asked next all = by (edit_named asked)
     by (Ok edit) = all edit
     by (Err why) = c.ended _ _
 
-pub made_each : (P : Plan → Type 0) → IsClosed P → {A : Type 0} (given : Result A CmdFault) (next : A → Plan) → AreAll P next → P (with_made given next)
+pub made_each : (P : Plan → Type 0) → IsClosed P → {A : Type 0} (given : Result A EditRefusal) (next : A → Plan) → AreAll P next → P (with_made given next)
 made_each P c (Ok value) next all = all value
 made_each P c (Err fault) next all = c.ended _ _
 
@@ -152,10 +152,10 @@ new_lock_each P o table as_taken taken next all = all taken
 new_lock_each P o table in_clear taken next all = all None
 new_lock_each P o table (under master) taken next all = master_each P o (put_origin taken) table master next all
 
-pub under_each : (P : Plan → Type 0) → IsOpen P → (from : Origin) (table : Table) (master : Option Keys) (place : Place) (next : Keys → Plan) → AreAll P next → P (takes_under from table master place next)
+pub under_each : (P : Plan → Type 0) → IsOpen P → (from : Origin) (table : Table) (master : Option Keys) (place : KeysetFile) (next : Keys → Plan) → AreAll P next → P (takes_under from table master place next)
 under_each P o from table master place next all = bytes_each P o from (limit_under master) place.file (λ bytes. keyset_under (origin_of from place.file) table master place.form bytes next) (λ bytes. keyset_under_each P o (origin_of from place.file) table master place.form bytes next all)
 
-pub locked_each : (P : Plan → Type 0) → IsOpen P → (from : Origin) (table : Table) (lock : Lock) (place : Place) (next : Keys → Plan) → AreAll P next → P (takes_locked from table lock place next)
+pub locked_each : (P : Plan → Type 0) → IsOpen P → (from : Origin) (table : Table) (lock : Lock) (place : KeysetFile) (next : Keys → Plan) → AreAll P next → P (takes_locked from table lock place next)
 locked_each P o from table lock place next all = lock_each P o table lock _ (λ master. under_each P o from table master place next all)
 
 pub loaded_each : (P : Plan → Type 0) → IsOpen P → (table : Table) (lock : Lock) (name : List ℕ) (form : Format) (next : Keys → Plan) → AreAll P next → P (loads_locked table lock name form next)
@@ -169,10 +169,10 @@ pub lines_each : (P : Plan → Type 0) → IsClosed P → (found : Option (List 
 lines_each P c None next all = c.ended _ _
 lines_each P c (Some lines) next all = c.allocated _ (all lines)
 
-pub stretch_each : (P : Plan → Type 0) → IsClosed P → (opened : Opened) (next : List ℕ → Plan) → AreAll P next → P (with_stretch opened next)
-stretch_each P c (Ok plain) next all = all plain
-stretch_each P c (Err (stream_failed number)) next all = c.ended _ _
-stretch_each P c (Err past_end) next all = c.ended _ _
+pub range_each : (P : Plan → Type 0) → IsClosed P → (opened : Opened) (next : List ℕ → Plan) → AreAll P next → P (with_range opened next)
+range_each P c (Ok plain) next all = all plain
+range_each P c (Err (stream_failed number)) next all = c.ended _ _
+range_each P c (Err past_end) next all = c.ended _ _
 
 pub derived_each : (P : Plan → Type 0) → IsClosed P → (asked : ℕ) (found : Option (Result (List ℕ) ℕ)) (next : List ℕ → Plan) → AreAll P next → P (with_derived asked found next)
 derived_each P c asked None next all = all []

@@ -24,7 +24,7 @@ use Rattle.seal_wrap.specs.Enveloping.{url_made}
 use Rattle.seal_wrap.specs.Unwrapped as unwrapped
 use Rattle.seal_wrap.specs.Unwrapped.{is_wrapped_binary, is_wrapped_json, unwrap_of}
 use Rattle.tinkey_cmds.specs.Draws.{Drawn}
-use Rattle.tinkey_cmds.specs.declared.command.CmdFault.{CmdFault}
+use Rattle.tinkey_cmds.specs.declared.command.EditRefusal.{EditRefusal}
 use Rattle.tinkey_session.specs.Serving.{cannot_serve, no_template}
 use Rattle.tinkey_session.specs.declared.reply.Refusal.TheVariants.{Command}
 use Rattle.wrapped_prims.specs.Answers.{Sealed, seal_answer, seal_behind}
@@ -98,7 +98,7 @@ clear_opened : (what : Unopened) (sealer : Sealer) (o : Option (List ℕ)) (out 
 clear_opened what sealer None out = clear_end (status.OpenFailed what sealer) tt (λ d. d)
 clear_opened what sealer (Some plain) out = clear_puts out plain
 
-clear_sealing : (given : Result (List ℕ) CmdFault) (payload : List ℕ) (out : Option (List ℕ)) → Clears (with_made given (λ sealed. puts out (envelope sealed payload)))
+clear_sealing : (given : Result (List ℕ) EditRefusal) (payload : List ℕ) (out : Option (List ℕ)) → Clears (with_made given (λ sealed. puts out (envelope sealed payload)))
 clear_sealing (Ok sealed) payload out = clear_puts out (envelope sealed payload)
 clear_sealing (Err fault) payload out = clear_end (status.Refused (Command fault)) tt (λ d. d)
 
@@ -118,7 +118,7 @@ clear_enveloped : (r : Result (List ℕ) Rule) (out : Option (List ℕ)) → ((r
 clear_enveloped (Ok bytes) out never = clear_puts out bytes
 clear_enveloped (Err rule) out never = absurd (never rule refl)
 
-clear_made : (given : Result (Result (List ℕ) Rule) CmdFault) (out : Option (List ℕ)) → ((rule : Rule) → given ≡ Ok (Err rule) → ⊥) → Clears (with_made given (λ e. with_enveloped e (puts out)))
+clear_made : (given : Result (Result (List ℕ) Rule) EditRefusal) (out : Option (List ℕ)) → ((rule : Rule) → given ≡ Ok (Err rule) → ⊥) → Clears (with_made given (λ e. with_enveloped e (puts out)))
 clear_made (Ok r) out never = clear_enveloped r out (λ rule e. never rule (ap Ok e))
 clear_made (Err fault) out never = clear_end (status.Refused (Command fault)) tt (λ d. d)
 
@@ -136,7 +136,7 @@ under_never keys value plain ad rest r key true e rule valid is err = absurd (cc
 under_never keys value plain ad rest (Ok k) key false e rule valid is err = behind_never plain ad k (seal_answer keys standard_table value [] rest) e rule is err
 under_never keys value plain ad rest (Err other) key false e rule valid is err = absurd (cc)
 
-same_answer : (a b : Result (List ℕ) Rule) → ◌≡◌ {A = Result (Result (List ℕ) Rule) CmdFault} (Ok a) (Ok b) → a ≡ b
+same_answer : (a b : Result (List ℕ) Rule) → ◌≡◌ {A = Result (Result (List ℕ) Rule) EditRefusal} (Ok a) (Ok b) → a ≡ b
 same_answer a b is = cc
 
 some_enveloped : (o : Option Enveloped) (rule : Rule) (left : List ℕ) → option_map as_enveloped o ≡ Some (record { answer = Ok (Err rule); left = left }) → (e : Enveloped) × (o ≡ Some e) × (e.answer ≡ Err rule)

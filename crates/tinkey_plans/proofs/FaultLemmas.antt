@@ -17,7 +17,7 @@ use Rattle.tinkey_session.specs.declared.talk.TalkFault.TheVariants as talk_faul
 use Rattle.tinkey_plans.specs.declared.status.Status.{Status}
 use Rattle.tinkey_plans.specs.declared.status.Status.TheVariants as status
 use Rattle.tinkey_plans.specs.Plan.{Plan, ends, writes, creates, looks, allocates, loads, reads_all, reads_front, ranges, draws, pumps, collects, exchanges, stream_status, limit_status, IsStated}
-use Rattle.tinkey_plans.specs.Ends.{World, Ends, KeptAside, OnlyStreams, pump_status, OnlySource, OnlySink, OnlyStore, OnlyEntropy, loaded, load_absent, load_long, load_failed, load_starved, ranged, range_absent, range_failed, range_starved, wrote, write_failed, made, name_taken, create_failed, create_starved, look_free, look_taken, look_failed, read, too_long, read_failed, read_starved, front_read, front_failed, settled, draw_failed, draw_starved, talk_status, sides_of, collected, collect_refused, collect_unread, collect_unkept, exchanged, exchange_ended}
+use Rattle.tinkey_plans.specs.Ends.{World, Ends, KeptDraft, OnlyStreams, pump_status, OnlySource, OnlySink, OnlyStore, OnlyEntropy, loaded, load_absent, load_long, load_failed, load_starved, ranged, range_absent, range_failed, range_starved, wrote, write_failed, made, name_taken, create_failed, create_starved, look_free, look_taken, look_failed, read, too_long, read_failed, read_starved, front_read, front_failed, settled, draw_failed, draw_starved, talk_status, sides_of, collected, collect_refused, collect_unread, collect_unkept, exchanged, exchange_ended}
 use Rattle.tinkey_plans.specs.Promises.{HasCause, ShowsFaults, NoneFailed, Completes}
 
 -- a stated status is no fault, and no want of memory
@@ -169,9 +169,9 @@ has_cause (pumps part) old s new e = pump_cause part e.result old s new e.status
 has_cause (collects part next) old s new (collected all source store gave stood kept quiet given end none run) =
     let later = has_cause (next (part.output all true)) (record old { source = source; store = store }) s new run in
     record { read = λ h. rose_after _ _ _ gave.faults (later.read h); write = later.write; store = λ h. rose_after _ _ _ kept.faults (later.store h); entropy = later.entropy }
-has_cause (collects part next) old s new (collect_refused taken ended refusal is aside source store end decided lasting) = no_fault old new s (rw is (refusal_stated refusal))
-has_cause (collects part next) old s new (collect_unread taken is aside rose store none) = record { read = λ h. rose; write = λ h. absurd (cc); store = λ h. absurd (cc); entropy = λ h. absurd (cc) }
-has_cause (collects part next) old s new (collect_unkept taken ended is aside source rose some) = store_cause old new s is rose
+has_cause (collects part next) old s new (collect_refused taken ended refusal is kept_draft source store end decided lasting) = no_fault old new s (rw is (refusal_stated refusal))
+has_cause (collects part next) old s new (collect_unread taken is kept_draft rose store none) = record { read = λ h. rose; write = λ h. absurd (cc); store = λ h. absurd (cc); entropy = λ h. absurd (cc) }
+has_cause (collects part next) old s new (collect_unkept taken ended is kept_draft source rose some) = store_cause old new s is rose
 has_cause (exchanges exchange next) old s new (exchanged keys mid talk store steady run) =
     let later = has_cause (next keys) mid s new run in
     let has = (went exchange keys (sides_of old) (sides_of mid) talk).has in
@@ -234,9 +234,9 @@ talk_shown exchange fault old s new is (talks.undrawn taken drawn ended r has ro
 talk_shown exchange fault old s new is (talks.unwritten taken drawn ended r gave drew front end rose source entropy) store = record { read = λ other. source; write = λ other. absurd (other (of_fault s fault talk_faults.WriteFault is r)); store = λ other. store_stood old new store; entropy = λ other. entropy }
 talk_shown exchange fault old s new is (talks.starved taken more drawn part r gave drew took stop none) store = record { read = λ other. none.read; write = λ other. none.write; store = λ other. store_stood old new store; entropy = λ other. none.draw }
 
--- source and store alone were used, and what the source gave was kept aside
-aside_shown : (old new : World) (s : Status) (taken : List ℕ) → KeptAside old new taken → (s ≢ status.ReadFault → Stood old.source.faults new.source.faults) → (s ≢ status.StoreFault → Stood old.store.faults new.store.faults) → ShowsFaults old s new
-aside_shown old new s taken aside source store = record { read = source; write = λ other. sink_stood old new aside.sink; store = store; entropy = λ other. entropy_stood old new aside.entropy }
+-- source and store alone were used, and what the source gave was kept in a draft
+draft_shown : (old new : World) (s : Status) (taken : List ℕ) → KeptDraft old new taken → (s ≢ status.ReadFault → Stood old.source.faults new.source.faults) → (s ≢ status.StoreFault → Stood old.store.faults new.store.faults) → ShowsFaults old s new
+draft_shown old new s taken kept_draft source store = record { read = source; write = λ other. sink_stood old new kept_draft.sink; store = store; entropy = λ other. entropy_stood old new kept_draft.entropy }
 
 pub shows_faults : (p : Plan) (old : World) (s : Status) (new : World) → Ends p old s new → ShowsFaults old s new
 shows_faults (ends answered stated) old s new (is, same) = all_stood old new s same
@@ -285,9 +285,9 @@ shows_faults (pumps part) old s new e = pump_shown e.result old s new e.status e
 shows_faults (collects part next) old s new (collected all source store gave stood kept quiet given end none run) =
     let later = shows_faults (next (part.output all true)) (record old { source = source; store = store }) s new run in
     record { read = λ other. later.read other ∙ stood; write = later.write; store = λ other. later.store other ∙ quiet; entropy = later.entropy }
-shows_faults (collects part next) old s new (collect_refused taken ended refusal is aside source store end decided lasting) = aside_shown old new s taken aside (λ other. source) (λ other. store)
-shows_faults (collects part next) old s new (collect_unread taken is aside rose store none) = aside_shown old new s taken aside (λ other. absurd (other is)) (λ other. store)
-shows_faults (collects part next) old s new (collect_unkept taken ended is aside source rose some) = aside_shown old new s taken aside (λ other. source) (λ other. absurd (other is))
+shows_faults (collects part next) old s new (collect_refused taken ended refusal is kept_draft source store end decided lasting) = draft_shown old new s taken kept_draft (λ other. source) (λ other. store)
+shows_faults (collects part next) old s new (collect_unread taken is kept_draft rose store none) = draft_shown old new s taken kept_draft (λ other. absurd (other is)) (λ other. store)
+shows_faults (collects part next) old s new (collect_unkept taken ended is kept_draft source rose some) = draft_shown old new s taken kept_draft (λ other. source) (λ other. absurd (other is))
 shows_faults (exchanges exchange next) old s new (exchanged keys mid talk store steady run) =
     let later = shows_faults (next keys) mid s new run in
     let none = (went exchange keys (sides_of old) (sides_of mid) talk).none in
@@ -350,9 +350,9 @@ completes_from (draws kind give next) old s new (draw_starved parts is only draw
 completes_from (pumps part) old s new e none memory = pump_stated part e.result old s new e.status e.pass none
 completes_from (collects part next) old s new (collected all source store gave stood kept quiet given end undecided run) none memory =
     completes_from (next (part.output all true)) (record old { source = source; store = store }) s new run (record { read = λ rose. none.read (rose_after _ _ _ gave.faults rose); write = none.write; store = λ rose. none.store (rose_after _ _ _ kept.faults rose); entropy = none.entropy }) memory
-completes_from (collects part next) old s new (collect_refused taken ended refusal is aside source store end decided lasting) none memory = rw is (refusal_stated refusal)
-completes_from (collects part next) old s new (collect_unread taken is aside rose store undecided) none memory = absurd (none.read rose)
-completes_from (collects part next) old s new (collect_unkept taken ended is aside source rose some) none memory = absurd (none.store rose)
+completes_from (collects part next) old s new (collect_refused taken ended refusal is kept_draft source store end decided lasting) none memory = rw is (refusal_stated refusal)
+completes_from (collects part next) old s new (collect_unread taken is kept_draft rose store undecided) none memory = absurd (none.read rose)
+completes_from (collects part next) old s new (collect_unkept taken ended is kept_draft source rose some) none memory = absurd (none.store rose)
 completes_from (exchanges exchange next) old s new (exchanged keys mid talk store steady run) none memory =
     let has = (went exchange keys (sides_of old) (sides_of mid) talk).has in
     completes_from (next keys) mid s new run (record {

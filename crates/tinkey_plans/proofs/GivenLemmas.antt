@@ -72,9 +72,9 @@ reads (draws kind give next) old s new (draw_starved parts is only drawn drew st
 reads (pumps part) old s new e = given_none _ old new refl (none_given _ _ e.only.store)
 reads (collects part next) old s new (collected all source store gave stood kept quiet given end none run) =
     given_later _ (next (part.output all true)) old (record old { source = source; store = store }) new kept.files given (λ n may. inr (part.output all true, may)) (reads (next (part.output all true)) (record old { source = source; store = store }) s new run)
-reads (collects part next) old s new (collect_refused taken ended refusal is aside source store end decided lasting) = given_none _ old new (inl refl) aside.given
-reads (collects part next) old s new (collect_unread taken is aside rose store none) = given_none _ old new (inl refl) aside.given
-reads (collects part next) old s new (collect_unkept taken ended is aside source rose some) = given_none _ old new (inl refl) aside.given
+reads (collects part next) old s new (collect_refused taken ended refusal is kept_draft source store end decided lasting) = given_none _ old new (inl refl) kept_draft.given
+reads (collects part next) old s new (collect_unread taken is kept_draft rose store none) = given_none _ old new (inl refl) kept_draft.given
+reads (collects part next) old s new (collect_unkept taken ended is kept_draft source rose some) = given_none _ old new (inl refl) kept_draft.given
 reads (exchanges exchange next) old s new (exchanged keys mid talk store steady run) =
     given_later _ (next keys) old mid new (store_same _ _ store) (none_given _ _ store) (λ n may. inr (keys, may)) (reads (next keys) mid s new run)
 reads (exchanges exchange next) old s new (exchange_ended fault is talk store steady) = given_none _ old new (inl refl) (none_given _ _ store)

@@ -14,7 +14,7 @@ use Rattle.segment_stream.specs.KeysModel.{KeysForStreams}
 use Rattle.segment_stream.specs.StreamKeys as streams
 use Rattle.tinkey_cmds.specs.Draws.{Draw, Drawn}
 use Rattle.tinkey_cmds.specs.Edits.{first, step}
-use Rattle.tinkey_cmds.specs.declared.command.CmdFault.{CmdFault}
+use Rattle.tinkey_cmds.specs.declared.command.EditRefusal.{EditRefusal}
 use Rattle.wrapped_prims.specs.Fitness.{unfit}
 use Rattle.tinkey_plans.specs.declared.status.Status.{Status}
 use Rattle.tinkey_plans.specs.declared.origin.Origin.TheVariants as origins
@@ -34,12 +34,12 @@ use Rattle.tinkey_plans.specs.SelfTesting.{tells_counts}
 use Rattle.tinkey_plans.specs.Session.{finds_free, holds_session, saves_as}
 use Rattle.tinkey_plans.specs.Streaming.{begins_file, keys_for, opens_stream, passes_to, reseals_stream, seals_stream, with_keys}
 use Rattle.tinkey_plans.specs.Streaming as streaming
-use Rattle.tinkey_plans.specs.Stretch.{Opened, Stretch, stretch_in}
+use Rattle.tinkey_plans.specs.FileRange.{Opened, FileRange, range_in}
 use Rattle.tinkey_session.proofs.Options.{clash}
 use Rattle.tinkey_session.specs.Talking.{Stop, goes, wants, passes, long_line, many_lines, Talk, Limit}
 use Rattle.tinkey_plans.specs.Commands.{command_plan}
-use Rattle.tinkey_words.specs.Words.{Asked, self_test, Place, primitive_for, create_keyset, edit_keyset, list_keyset, key_of, convert_keyset, list_key_templates, use_keyset, use_envelope, seal_stream, open_stream, reseal_stream, open_range, session, help, version}
-use Rattle.tinkey_plans.proofs.EachLemmas.{AreAll, IsClosed, IsOpen, dek_each, envelope_each, scheme_each, stretch_each, edit_each, fit_each, lines_each, loaded_each, lock_each, locked_each, made_each, new_lock_each, row_each, under_each, work_each, written_under_each}
+use Rattle.tinkey_words.specs.Words.{Asked, self_test, KeysetFile, primitive_for, create_keyset, edit_keyset, list_keyset, key_of, convert_keyset, list_key_templates, use_keyset, use_envelope, seal_stream, open_stream, reseal_stream, open_range, session, help, version}
+use Rattle.tinkey_plans.proofs.EachLemmas.{AreAll, IsClosed, IsOpen, dek_each, envelope_each, scheme_each, range_each, edit_each, fit_each, lines_each, loaded_each, lock_each, locked_each, made_each, new_lock_each, row_each, under_each, work_each, written_under_each}
 
 -- the refusals of its steps aren't Done
 abbrev IsProper : Plan → Type 0
@@ -52,7 +52,7 @@ IsProper (loads name limit absent long a l next) = (absent ≢ status.Done) × (
 IsProper (ranges x absent a next) = (absent ≢ status.Done) × ((opened : Opened) → IsProper (next opened))
 IsProper (reads_all limit long stated next) = (long ≢ status.Done) × ((all : List ℕ) → IsProper (next all))
 IsProper (reads_front size next) = (front : List ℕ) → IsProper (next front)
-IsProper (draws kind give next) = (given : Result (Of kind) CmdFault) → IsProper (next given)
+IsProper (draws kind give next) = (given : Result (Of kind) EditRefusal) → IsProper (next given)
 IsProper (pumps part) = Unit {0}
 IsProper (collects part next) = (output : List ℕ) → IsProper (next output)
 IsProper (exchanges exchange next) = (keys : Keys) → IsProper (next keys)
@@ -98,13 +98,13 @@ loaded (Some bytes) limit told absent long next Then other past each = (
     back true is x = (each bytes).1 x
     back false is x = absurd (cc)
 
-stretched : (found : Option (List ℕ)) (x : Stretch) (told : Told) (absent : Status) (next : Opened → Answer) (Then : Opened → Type 0) → absent ≢ status.Done → ((opened : Opened) → IsDone (next opened) ↔ Then opened)
-    → IsDone (range_answer found x (refused told absent) next) ↔ ((bytes : List ℕ) × (found ≡ Some bytes) × Then (stretch_in x bytes))
-stretched None x told absent next Then other each = (λ d. absurd (other d), λ y. clash y.1)
-stretched (Some bytes) x told absent next Then other each = (
-  λ d. (bytes, refl, (each (stretch_in x bytes)).0 d),
+range_done : (found : Option (List ℕ)) (x : FileRange) (told : Told) (absent : Status) (next : Opened → Answer) (Then : Opened → Type 0) → absent ≢ status.Done → ((opened : Opened) → IsDone (next opened) ↔ Then opened)
+    → IsDone (range_answer found x (refused told absent) next) ↔ ((bytes : List ℕ) × (found ≡ Some bytes) × Then (range_in x bytes))
+range_done None x told absent next Then other each = (λ d. absurd (other d), λ y. clash y.1)
+range_done (Some bytes) x told absent next Then other each = (
+  λ d. (bytes, refl, (each (range_in x bytes)).0 d),
   λ y. let same : bytes ≡ y.0 = (let e : Some bytes ≡ Some y.0 = y.1 in cc) in
-      (each (stretch_in x bytes)).1 (subst (λ b. Then (stretch_in x b)) (sym same) y.2),
+      (each (range_in x bytes)).1 (subst (λ b. Then (range_in x b)) (sym same) y.2),
 )
 
 read_in : (input : List ℕ) (limit : ℕ) (went long : Answer) (Then : Type 0) → long.status ≢ status.Done → (IsDone went ↔ Then) → IsDone (if nat_le (length input) limit then went else long) ↔ ((length input ≤ limit) × Then)
@@ -145,7 +145,7 @@ done_exactly (creates name output taken stated) told proper = created (map.get t
 done_exactly (looks name taken stated next) told proper = looked (map.get told.files name) told taken _ _ proper.0 (done_exactly next told proper.1)
 done_exactly (allocates next) told proper = done_exactly next told proper
 done_exactly (loads name limit absent long a l next) told proper = loaded (map.get told.files name) limit told absent long _ _ proper.0 proper.1 (λ bytes. done_exactly (next bytes) told (proper.2 bytes))
-done_exactly (ranges x absent a next) told proper = stretched (map.get told.files x.name) x told absent _ _ proper.0 (λ opened. done_exactly (next opened) told (proper.1 opened))
+done_exactly (ranges x absent a next) told proper = range_done (map.get told.files x.name) x told absent _ _ proper.0 (λ opened. done_exactly (next opened) told (proper.1 opened))
 done_exactly (reads_all limit long stated next) told proper = read_in told.input limit _ _ _ proper.0 (done_exactly (next told.input) (record told { input = [] }) (proper.1 told.input))
 done_exactly (reads_front size next) told proper = done_exactly (next (take size told.input)) (record told { input = drop size told.input }) (proper (take size told.input))
 done_exactly (draws kind give next) told proper = drawn_in (give told.random) told _ _ (λ drawn. done_exactly (next drawn.answer) (record told { random = drawn.left }) (proper drawn.answer))
@@ -171,14 +171,14 @@ put_proper : (file : Option (List ℕ)) (output : List ℕ) → IsProper (puts f
 put_proper (Some name) output = λ e. cc
 put_proper None output = tt
 
-out_proper : (table : Table) (master : Option Keys) (out : Place) (keys : Keys) → IsProper (puts_under table master out keys)
+out_proper : (table : Table) (master : Option Keys) (out : KeysetFile) (keys : Keys) → IsProper (puts_under table master out keys)
 out_proper table master out keys = written_under_each IsProper closed table master out.form keys (λ m next all. all) (puts out.file) (put_proper out.file)
 
 shown_proper : (hex : Bool) (file : Option (List ℕ)) (bytes : List ℕ) → IsProper (shows hex bytes (puts file))
 shown_proper false file bytes = put_proper file bytes
 shown_proper true file bytes = put_proper file (hex_line bytes)
 
-counts_proper : (r : Result Counts CmdFault) (lines : ℕ) → IsProper (tells_counts lines r writes)
+counts_proper : (r : Result Counts EditRefusal) (lines : ℕ) → IsProper (tells_counts lines r writes)
 counts_proper (Ok n) lines = tt
 counts_proper (Err fault) lines = tt
 
@@ -235,7 +235,7 @@ commands_are_proper table (use_envelope lock name form template work out) = (dek
 commands_are_proper table (seal_stream lock name form ad out) = loaded_each IsProper open' table lock name form _ (λ keys. stream_fit_proper (streams.stream_unfit keys) _ (stream_keys_proper (keys_for keys) _ (seals_proper ad out)))
 commands_are_proper table (open_stream lock name form ad out) = loaded_each IsProper open' table lock name form _ (λ keys. stream_fit_proper (streams.stream_unfit keys) _ (stream_keys_proper (keys_for keys) _ (opens_proper ad out)))
 commands_are_proper table (reseal_stream lock name form ad out) = loaded_each IsProper open' table lock name form _ (λ keys. stream_fit_proper (streams.stream_unfit keys) _ (stream_keys_proper (keys_for keys) _ (reseals_proper ad out)))
-commands_are_proper table (open_range lock name form ad range out) = (loaded_each IsProper open' table lock name form _ (λ keys. stream_fit_proper (streams.stream_unfit keys) _ (stream_keys_proper (keys_for keys) _ (λ k. (λ e. cc, λ opened. stretch_each IsProper closed opened _ (put_proper out))))))
+commands_are_proper table (open_range lock name form ad range out) = (loaded_each IsProper open' table lock name form _ (λ keys. stream_fit_proper (streams.stream_unfit keys) _ (stream_keys_proper (keys_for keys) _ (λ k. (λ e. cc, λ opened. range_each IsProper closed opened _ (put_proper out))))))
 commands_are_proper table (self_test seed lines) = (counts_proper (trial.self_test table seed lines) lines)
 commands_are_proper table (session lock name form out) = lock_each IsProper open' table lock _ (λ master. under_each IsProper open' origins.Keyset table master (record { file = Some name; form = form }) (holds_session table master out) (λ keys. free_proper out.file _ (λ last. saves_proper table master out.file out.form last)))
 commands_are_proper table (help topic) = tt

@@ -13,7 +13,7 @@ use Rattle.segment_stream.specs.Pumping as pass
 use Rattle.segment_stream.specs.declared.fault.OpenPumpFault.{OpenPumpFault}
 use Rattle.segment_stream.specs.declared.fault.OpenPumpFault.TheVariants as faults
 use Rattle.tinkey_cmds.specs.Draws.{Draw, Drawn}
-use Rattle.tinkey_cmds.specs.declared.command.CmdFault.{CmdFault}
+use Rattle.tinkey_cmds.specs.declared.command.EditRefusal.{EditRefusal}
 use Rattle.keyset_model.specs.Keyset.{Keys}
 use Rattle.tinkey_session.specs.Talking.{Exchange, Talk, Stop, goes, wants, passes, Limit}
 use Rattle.tinkey_session.specs.Talks.{Talks, HasTalked, IsSteady}
@@ -23,9 +23,9 @@ use Rattle.tinkey_session.specs.declared.talk.TalkFault.TheVariants as talk_faul
 use Rattle.tinkey_plans.specs.declared.status.Status.{Status}
 use Rattle.tinkey_plans.specs.declared.status.Status.TheVariants as status
 use Rattle.tinkey_plans.specs.Plan.{Plan, ends, writes, creates, looks, allocates, loads, reads_all, reads_front, ranges, draws, pumps, collects, exchanges, Told, Answer, answer, collect_answer, refused, stream_status, limit_status, talk_answer, load_answer, range_answer, create_answer, look_answer, draw_answer, IsStated}
-use Rattle.tinkey_plans.specs.Ends.{World, Ends, Settles, IsLasting, OnlyStreams, pump_status, OnlySource, OnlySink, OnlyStore, loaded, load_absent, load_long, load_failed, load_starved, ranged, range_absent, range_failed, range_starved, wrote, write_failed, made, name_taken, create_failed, create_starved, look_free, look_taken, look_failed, read, too_long, read_failed, read_starved, front_read, front_failed, settled, draw_failed, draw_starved, talk_status, sides_of, KeptAside, collected, collect_refused, collect_unread, collect_unkept, exchanged, exchange_ended}
-use Rattle.tinkey_plans.specs.Promises.{Tells, IsAnswer, Answers, IsFront, Moved, nothing, IsPassLeft, pass_done, pass_refused, pass_unread, pass_unwritten, IsAsideLeft, aside_refused, aside_unread, aside_unkept, HasReplied, IsTalkLeft, talk_passed, talk_unread, talk_undrawn, talk_unwritten, talk_starved, then_moved, IsWhole, IsLeft, Leaves, IsTorn, Stands, Promised}
-use Rattle.tinkey_plans.specs.Stretch.{Opened, Stretch, HoldsStretch, stretch_in}
+use Rattle.tinkey_plans.specs.Ends.{World, Ends, Settles, IsLasting, OnlyStreams, pump_status, OnlySource, OnlySink, OnlyStore, loaded, load_absent, load_long, load_failed, load_starved, ranged, range_absent, range_failed, range_starved, wrote, write_failed, made, name_taken, create_failed, create_starved, look_free, look_taken, look_failed, read, too_long, read_failed, read_starved, front_read, front_failed, settled, draw_failed, draw_starved, talk_status, sides_of, KeptDraft, collected, collect_refused, collect_unread, collect_unkept, exchanged, exchange_ended}
+use Rattle.tinkey_plans.specs.Promises.{Tells, IsAnswer, Answers, IsFront, Moved, nothing, IsPassLeft, pass_done, pass_refused, pass_unread, pass_unwritten, IsDraftLeft, draft_refused, draft_unread, draft_unkept, HasReplied, IsTalkLeft, talk_passed, talk_unread, talk_undrawn, talk_unwritten, talk_starved, then_moved, IsWhole, IsLeft, Leaves, IsTorn, Stands, Promised}
+use Rattle.tinkey_plans.specs.FileRange.{Opened, FileRange, HoldsRange, range_in}
 use Rattle.tinkey_plans.proofs.GivenLemmas.{reads}
 use Rattle.tinkey_plans.proofs.FaultLemmas.{not_read_fault, not_write_fault, not_store_fault, not_entropy_fault, not_no_memory, refusal_stated, of_result, of_refusal, of_fault, of_limit, went, Went, has_cause, shows_faults, completes}
 
@@ -124,14 +124,14 @@ long_loaded found bytes limit absent long next is lt = rw (is, past_test (length
 absent_answer : (found : Option (List ℕ)) (limit : ℕ) (absent long : Answer) (next : List ℕ → Answer) → found ≡ None → load_answer found limit absent long next ≡ absent
 absent_answer found limit absent long next is = rw is refl
 
--- the answer goes on behind a stretch
-stretch_told : (store : StoreState) (files : Files) (x : Stretch) (opened : Opened) → store.files ≡ Some files → HoldsStretch store x opened → (bytes : List ℕ) × (map.get files x.name ≡ Some bytes) × (stretch_in x bytes ≡ opened)
-stretch_told store files x opened told holds = let h : IfSome (Some files) (λ f. (bytes : List ℕ) × (map.get f x.name ≡ Some bytes) × (stretch_in x bytes ≡ opened)) = rw told at holds in h
+-- the answer goes on behind a range
+range_told : (store : StoreState) (files : Files) (x : FileRange) (opened : Opened) → store.files ≡ Some files → HoldsRange store x opened → (bytes : List ℕ) × (map.get files x.name ≡ Some bytes) × (range_in x bytes ≡ opened)
+range_told store files x opened told holds = let h : IfSome (Some files) (λ f. (bytes : List ℕ) × (map.get f x.name ≡ Some bytes) × (range_in x bytes ≡ opened)) = rw told at holds in h
 
-opened_answer : (found : Option (List ℕ)) (bytes : List ℕ) (x : Stretch) (opened : Opened) (absent : Answer) (next : Opened → Answer) → found ≡ Some bytes → stretch_in x bytes ≡ opened → range_answer found x absent next ≡ next opened
+opened_answer : (found : Option (List ℕ)) (bytes : List ℕ) (x : FileRange) (opened : Opened) (absent : Answer) (next : Opened → Answer) → found ≡ Some bytes → range_in x bytes ≡ opened → range_answer found x absent next ≡ next opened
 opened_answer found bytes x opened absent next is same = ap (λ f. range_answer f x absent next) is ∙ ap next same
 
-unfound_answer : (found : Option (List ℕ)) (x : Stretch) (absent : Answer) (next : Opened → Answer) → found ≡ None → range_answer found x absent next ≡ absent
+unfound_answer : (found : Option (List ℕ)) (x : FileRange) (absent : Answer) (next : Opened → Answer) → found ≡ None → range_answer found x absent next ≡ absent
 unfound_answer found x absent next is = ap (λ f. range_answer f x absent next) is
 
 -- the answer where a file may be made
@@ -149,7 +149,7 @@ found_answer : (found : Option (List ℕ)) (bytes : List ℕ) (taken next : Answ
 found_answer found bytes taken next is = rw is refl
 
 -- the answer goes on behind bytes that were drawn
-settled_answer : {A : Type 0} (give : Draw A) (drawn rest random : List ℕ) (given : Result A CmdFault) (short : Answer) (next : Drawn A → Answer) → Settles give drawn given → random ≡ drawn ++ rest → draw_answer (give random) short next ≡ next (record { answer = given; left = rest })
+settled_answer : {A : Type 0} (give : Draw A) (drawn rest random : List ℕ) (given : Result A EditRefusal) (short : Answer) (next : Drawn A → Answer) → Settles give drawn given → random ≡ drawn ++ rest → draw_answer (give random) short next ≡ next (record { answer = given; left = rest })
 settled_answer give drawn rest random given short next settles is = rw (is, settles rest) refl
 
 -- nothing of the objects was used
@@ -231,15 +231,15 @@ collected_answer part next told all is none =
     ∙ ap (λ (o : Option StreamRefusal). collect_answer o told (answer (next (part.output all true)) (record told { input = [] }))) none
 
 -- a pass of which nothing was given out was refused, by what the whole input decides
-refused_aside : (part : Part) (next : List ℕ → Plan) (told : Told) (taken : List ℕ) (refusal : StreamRefusal) (old : World) (s : Status) (new : World) → s ≡ stream_status refusal → KeptAside old new taken → Tells old told → part.refusal told.input true ≡ Some refusal → IsAnswer (answer (collects part next) told) old s new
-refused_aside part next told taken refusal old s new is aside tells decided =
+refused_draft : (part : Part) (next : List ℕ → Plan) (told : Told) (taken : List ℕ) (refusal : StreamRefusal) (old : World) (s : Status) (new : World) → s ≡ stream_status refusal → KeptDraft old new taken → Tells old told → part.refusal told.input true ≡ Some refusal → IsAnswer (answer (collects part next) told) old s new
+refused_draft part next told taken refusal old s new is kept_draft tells decided =
     let a = λ (o : Option StreamRefusal). collect_answer o told (answer (next (part.output told.input true)) (record told { input = [] })) in
     subst (λ (a : Answer). IsAnswer a old s new) (sym (ap a decided)) (record {
       status = is;
       input = tt;
-      output = took_same old.sink new.sink aside.sink;
-      files = sym aside.kept.files ∙ tells.files;
-      random = random_told old new told tells aside.entropy;
+      output = took_same old.sink new.sink kept_draft.sink;
+      files = sym kept_draft.kept.files ∙ tells.files;
+      random = random_told old new told tells kept_draft.entropy;
     })
 
 -- the answer from a session on
@@ -343,7 +343,7 @@ answers_over (loads name limit absent long a l next) old s new (load_failed is o
 answers_over (loads name limit absent long a l next) old s new (load_starved is only kept stood given) told tells ok = absurd (not_no_memory s ok is)
 answers_over (ranges x absent a next) old s new (ranged opened store most kept stood given least past holds run) told tells ok =
     let later = answers_over (next opened) (record old { store = store }) s new run told (record { input = tells.input; files = sym kept.files ∙ tells.files; random = tells.random }) ok in
-    let found = stretch_told old.store told.files x opened tells.files holds in
+    let found = range_told old.store told.files x opened tells.files holds in
     subst (λ (a : Answer). IsAnswer a old s new) (sym (opened_answer _ found.0 x opened _ _ found.1 found.2))
     (record { status = later.status; input = later.input; output = later.output; files = later.files; random = later.random })
 answers_over (ranges x absent a next) old s new (range_absent is only kept stood given holds) told tells ok =
@@ -385,14 +385,14 @@ answers_over (collects part next) old s new (collected all source store gave sto
     let later = answers_over (next (part.output all true)) (record old { source = source; store = store }) s new run (record told { input = [] }) (record { input = whole.0; files = sym kept.files ∙ tells.files; random = tells.random }) ok in
     subst (λ (a : Answer). IsAnswer a old s new) (sym (collected_answer part next told all whole.1 none))
     (record { status = later.status; input = later.input; output = later.output; files = later.files; random = later.random })
-answers_over (collects part next) old s new (collect_refused taken true refusal is aside stood quiet end decided lasting) told tells ok =
-    let whole = whole_input old.source new.source told.input taken tells.input aside.gave (end refl) in
-    refused_aside part next told taken refusal old s new is aside tells (ap (λ (l : List ℕ). part.refusal l true) whole.1 ∙ decided)
-answers_over (collects part next) old s new (collect_refused taken false refusal is aside stood quiet end decided lasting) told tells ok =
-    let split = split_told new.source.left old.source.left told.input taken tells.input aside.gave.left in
-    refused_aside part next told taken refusal old s new is aside tells (ap (λ (l : List ℕ). part.refusal l true) split.2 ∙ (lasting.stays taken split.0 refusal decided).0)
-answers_over (collects part next) old s new (collect_unread taken is aside rose quiet undecided) told tells ok = absurd (not_read_fault s ok is)
-answers_over (collects part next) old s new (collect_unkept taken ended is aside stood rose some) told tells ok = absurd (not_store_fault s ok is)
+answers_over (collects part next) old s new (collect_refused taken true refusal is kept_draft stood quiet end decided lasting) told tells ok =
+    let whole = whole_input old.source new.source told.input taken tells.input kept_draft.gave (end refl) in
+    refused_draft part next told taken refusal old s new is kept_draft tells (ap (λ (l : List ℕ). part.refusal l true) whole.1 ∙ decided)
+answers_over (collects part next) old s new (collect_refused taken false refusal is kept_draft stood quiet end decided lasting) told tells ok =
+    let split = split_told new.source.left old.source.left told.input taken tells.input kept_draft.gave.left in
+    refused_draft part next told taken refusal old s new is kept_draft tells (ap (λ (l : List ℕ). part.refusal l true) split.2 ∙ (lasting.stays taken split.0 refusal decided).0)
+answers_over (collects part next) old s new (collect_unread taken is kept_draft rose quiet undecided) told tells ok = absurd (not_read_fault s ok is)
+answers_over (collects part next) old s new (collect_unkept taken ended is kept_draft stood rose some) told tells ok = absurd (not_store_fault s ok is)
 answers_over (exchanges exchange next) old s new (exchanged keys mid talk store steady run) told tells ok =
     let w = went exchange keys (sides_of old) (sides_of mid) talk in
     let after = is_told exchange next keys old mid told w store steady tells in
@@ -504,7 +504,7 @@ stands (loads name limit absent long a l next) old s new (load_failed is only ke
 stands (loads name limit absent long a l next) old s new (load_starved is only kept stood given) = untouched (loads name limit absent long a l next) old s new (λ h. absurd (cc)) only.sink kept
 stands (ranges x absent a next) old s new (ranged opened store most kept stood given least past holds run) =
     goes_on (ranges x absent a next) (next opened) old (record old { store = store }) s new (λ whole. whole opened) kept refl
-    (λ told tells. let found = stretch_told old.store told.files x opened tells.files holds in
+    (λ told tells. let found = range_told old.store told.files x opened tells.files holds in
     (told, record { input = tells.input; files = sym kept.files ∙ tells.files; random = tells.random }, refl, opened_answer _ found.0 x opened _ _ found.1 found.2))
     (stands (next opened) (record old { store = store }) s new run)
 stands (ranges x absent a next) old s new (range_absent is only kept stood given holds) = untouched (ranges x absent a next) old s new (λ h. not_write_fault absent a (sym is ∙ h)) only.sink kept
@@ -548,9 +548,9 @@ stands (collects part next) old s new (collected all source store gave stood kep
     (λ told tells. let whole = whole_input old.source source told.input all tells.input gave end in
     (record told { input = [] }, record { input = whole.0; files = sym kept.files ∙ tells.files; random = tells.random }, refl, collected_answer part next told all whole.1 none))
     (stands (next (part.output all true)) (record old { source = source; store = store }) s new run)
-stands (collects part next) old s new (collect_refused taken ended refusal is aside stood quiet end decided lasting) = untouched (collects part next) old s new (λ h. not_write_fault (stream_status refusal) (refusal_stated refusal) (sym is ∙ h)) aside.sink aside.kept
-stands (collects part next) old s new (collect_unread taken is aside rose quiet undecided) = untouched (collects part next) old s new (λ h. absurd (cc)) aside.sink aside.kept
-stands (collects part next) old s new (collect_unkept taken ended is aside stood rose some) = untouched (collects part next) old s new (λ h. absurd (cc)) aside.sink aside.kept
+stands (collects part next) old s new (collect_refused taken ended refusal is kept_draft stood quiet end decided lasting) = untouched (collects part next) old s new (λ h. not_write_fault (stream_status refusal) (refusal_stated refusal) (sym is ∙ h)) kept_draft.sink kept_draft.kept
+stands (collects part next) old s new (collect_unread taken is kept_draft rose quiet undecided) = untouched (collects part next) old s new (λ h. absurd (cc)) kept_draft.sink kept_draft.kept
+stands (collects part next) old s new (collect_unkept taken ended is kept_draft stood rose some) = untouched (collects part next) old s new (λ h. absurd (cc)) kept_draft.sink kept_draft.kept
 stands (pumps part) old s new e = record { files = λ done fault. same_files _ _ e.only.store; torn = λ h. inl (same_files _ _ e.only.store); kept = λ whole. absurd whole; front = λ whole. absurd whole; last = λ whole. absurd whole }
 
 -- What was taken, drawn and written.
@@ -632,13 +632,13 @@ talk_leaves exchange next fault old s new is (talks.starved taken more drawn par
 }
 
 -- what a pass took of which nothing was given out
-taken_aside : (part : Part) (next : List ℕ → Plan) (old : World) (s : Status) (new : World) (taken : List ℕ) → KeptAside old new taken → IsAsideLeft part s taken → Leaves (collects part next) old s new
-taken_aside part next old s new taken aside is = record {
+taken_draft : (part : Part) (next : List ℕ → Plan) (old : World) (s : Status) (new : World) (taken : List ℕ) → KeptDraft old new taken → IsDraftLeft part s taken → Leaves (collects part next) old s new
+taken_draft part next old s new taken kept_draft is = record {
   moved = record nothing { taken = taken };
-  gave = aside.gave;
-  gone = none_gone _ _ aside.entropy;
+  gave = kept_draft.gave;
+  gone = none_gone _ _ kept_draft.entropy;
   none_lost = λ other. refl;
-  took = took_same _ _ aside.sink;
+  took = took_same _ _ kept_draft.sink;
   is = inl (refl, is);
 }
 
@@ -688,9 +688,9 @@ leaves (draws kind give next) old s new (draw_starved parts is only drawn drew s
 leaves (collects part next) old s new (collected all source store gave stood kept quiet given end none run) =
     let later = leaves (next (part.output all true)) (record old { source = source; store = store }) s new run in
     record { moved = record later.moved { taken = all ++ later.moved.taken }; gave = gave_more _ _ _ _ _ gave later.gave; gone = later.gone; none_lost = later.none_lost; took = later.took; is = inr (all, later.moved.taken, refl, none, subst (λ (f : Option Files). IsLeft (next (part.output all true)) f s later.moved) (sym kept.files) later.is) }
-leaves (collects part next) old s new (collect_refused taken ended refusal is aside stood quiet end decided lasting) = taken_aside part next old s new taken aside (aside_refused ended refusal is decided)
-leaves (collects part next) old s new (collect_unread taken is aside rose quiet undecided) = taken_aside part next old s new taken aside (aside_unread is undecided)
-leaves (collects part next) old s new (collect_unkept taken ended is aside stood rose some) = taken_aside part next old s new taken aside (aside_unkept ended is some)
+leaves (collects part next) old s new (collect_refused taken ended refusal is kept_draft stood quiet end decided lasting) = taken_draft part next old s new taken kept_draft (draft_refused ended refusal is decided)
+leaves (collects part next) old s new (collect_unread taken is kept_draft rose quiet undecided) = taken_draft part next old s new taken kept_draft (draft_unread is undecided)
+leaves (collects part next) old s new (collect_unkept taken ended is kept_draft stood rose some) = taken_draft part next old s new taken kept_draft (draft_unkept ended is some)
 leaves (pumps part) old s new e = pump_leaves part e.result old s new e.status e.only e.pass
 leaves (exchanges exchange next) old s new (exchanged keys mid talk store steady run) =
     let w = went exchange keys (sides_of old) (sides_of mid) talk in

@@ -7,7 +7,7 @@ use Rattle.keyset_json.specs.Reading as Json
 use Rattle.keyset_json.specs.Reading.{reads_json}
 use Rattle.keyset_model.specs.Keyset.{Keys}
 use Rattle.keyset_model.specs.Reading.{Refusal, Wire, Fault, reads_binary}
-use Rattle.keyset_model.specs.declared.keyset.KeysetFault.{KeysetFault}
+use Rattle.keyset_model.specs.declared.keyset.KeysetRefusal.{KeysetRefusal}
 use Rattle.managers.specs.Table.{Table}
 use Rattle.seal_wrap.specs.Unwrapped.{is_wrapped_binary, is_wrapped_json, unwrap_of}
 use Rattle.seal_wrap.specs.Unwrapped as unwrapping
@@ -31,10 +31,10 @@ use Rattle.tinkey_plans.specs.Handles as handling
 use Rattle.tinkey_plans.specs.Laws.{GivesKeysetIn, IsKeysetIn, RangeGave, RangesReadLittle, limit_behind}
 use Rattle.tinkey_plans.specs.Locks.{keyset_under, limit_under, takes_under}
 use Rattle.tinkey_plans.specs.Plan.{Plan, allocates, ends}
-use Rattle.tinkey_plans.specs.Ranging.{opens_stretch, range_output, stretch_for, with_stretch}
+use Rattle.tinkey_plans.specs.Ranging.{opens_file_range, range_output, range_for, with_range}
 use Rattle.tinkey_plans.specs.Steps.{has_no_key, keyset_in, keyset_limit, puts, with_json, with_keyset}
 use Rattle.tinkey_plans.specs.Streaming.{keys_for, unless_unfit, with_keys}
-use Rattle.tinkey_plans.specs.Stretch.{Opened, Stretch, GivesAtMost}
+use Rattle.tinkey_plans.specs.FileRange.{Opened, FileRange, GivesAtMost}
 use Rattle.tinkey_plans.specs.declared.sealer.Sealer.{Sealer}
 use Rattle.tinkey_plans.specs.Wrapping.{ends_unopened, is_json, is_keyset, keyset_sealer, with_unwrapped, wrapped_limit}
 use Rattle.tinkey_plans.proofs.GivenLemmas.{none_given}
@@ -59,31 +59,31 @@ puts_here (Some name) output old s new (create_starved is only kept stood given)
 puts_here None output old s new (wrote is only stood took) e = cc
 puts_here None output old s new (write_failed is only rose front) e = cc
 
--- ---- the stretch
+-- ---- the range
 
 record Behind (old : StoreState) (s : Status) (new : StoreState) (opened : Opened) : Type 0 where
   none : GaveWithin old new 0
   past : s ≡ status.PastEnd → opened ≡ Err past_end
 
-behind : (opened : Opened) (out : Option (List ℕ)) (old : World) (s : Status) (new : World) → Ends (with_stretch opened (puts out)) old s new → Behind old.store s new.store opened
+behind : (opened : Opened) (out : Option (List ℕ)) (old : World) (s : Status) (new : World) → Ends (with_range opened (puts out)) old s new → Behind old.store s new.store opened
 behind (Ok plain) out old s new run = record { none = puts_none out plain old s new run; past = λ e. absurd (puts_here out plain old s new run e) }
 behind (Err (stream_failed number)) out old s new (is, same) = record { none = none_given _ _ (ap (λ (w : World). w.store) same); past = λ e. absurd (cc) }
 behind (Err past_end) out old s new (is, same) = record { none = none_given _ _ (ap (λ (w : World). w.store) same); past = λ e. refl }
 
--- what a stretch was given
-record StretchGave (x : Stretch) (old : StoreState) (s : Status) (new : StoreState) : Type 0 where
+-- what a range was given
+record FileRangeGave (x : FileRange) (old : StoreState) (s : Status) (new : StoreState) : Type 0 where
   most : ℕ
   least : GivesAtMost old.files x most
   past : s ≡ status.PastEnd → most ≤ 2 * x.largest
   within : GaveWithin old new most
 
-stretch_gave : (x : Stretch) (out : Option (List ℕ)) (old : World) (s : Status) (new : World) → EndsRanging x status.StreamMissing (λ opened. Ends (with_stretch opened (puts out))) old s new → GaveWithin old.store new.store 0 ⊎ StretchGave x old.store s new.store
-stretch_gave x out old s new (ranged opened store most kept stood given least past holds run) =
+file_range_gave : (x : FileRange) (out : Option (List ℕ)) (old : World) (s : Status) (new : World) → EndsRanging x status.StreamMissing (λ opened. Ends (with_range opened (puts out))) old s new → GaveWithin old.store new.store 0 ⊎ FileRangeGave x old.store s new.store
+file_range_gave x out old s new (ranged opened store most kept stood given least past holds run) =
     let later = behind opened out (record old { store = store }) s new run in
     inr (record { most = most; least = least; past = λ e. past (later.past e); within = omega (arith, given, later.none) })
-stretch_gave x out old s new (range_absent is only kept stood given holds) = inl given
-stretch_gave x out old s new (range_failed most is only kept rose given least) = inr (record { most = most; least = least; past = λ e. absurd (cc); within = given })
-stretch_gave x out old s new (range_starved most is only kept stood given least) = inr (record { most = most; least = least; past = λ e. absurd (cc); within = given })
+file_range_gave x out old s new (range_absent is only kept stood given holds) = inl given
+file_range_gave x out old s new (range_failed most is only kept rose given least) = inr (record { most = most; least = least; past = λ e. absurd (cc); within = given })
+file_range_gave x out old s new (range_starved most is only kept stood given least) = inr (record { most = most; least = least; past = λ e. absurd (cc); within = given })
 
 -- ---- the keyset
 
@@ -93,7 +93,7 @@ record WentOn {A : Type 0} (Is : A → Type 0) (next : A → Plan) (old : World)
   is : Is value
   run : Ends (next value) old s new
 
-faulty_ends : (from : Origin) (b : Bool) (fault : KeysetFault) (old : World) (s : Status) (new : World) → Ends (if b then ends (status.KeysetLocked fault from) tt else ends (status.Keyset fault) tt) old s new → old ≡ new
+faulty_ends : (from : Origin) (b : Bool) (fault : KeysetRefusal) (old : World) (s : Status) (new : World) → Ends (if b then ends (status.KeysetLocked fault from) tt else ends (status.Keyset fault) tt) old s new → old ≡ new
 faulty_ends from true fault old s new (is, same) = same
 faulty_ends from false fault old s new (is, same) = same
 
@@ -172,8 +172,8 @@ streams_end keyset then' old s new (inl run) = by (fit_ends (stream_unfit keyset
 
 -- ---- the whole
 
-abbrev stretch_plan : List ℕ → AskedRange → Option (List ℕ) → KeysForStreams → Plan
-stretch_plan ad range out keys = opens_stretch keys ad range (puts out)
+abbrev range_plan : List ℕ → AskedRange → Option (List ℕ) → KeysForStreams → Plan
+range_plan ad range out keys = opens_file_range keys ad range (puts out)
 
 -- what was given behind a lock
 record UnderGave (table : Table) (master : Option Keys) (name : List ℕ) (form : Format) (ad : List ℕ) (range : AskedRange) (old : StoreState) (s : Status) (new : StoreState) : Type 0 where
@@ -184,17 +184,17 @@ record UnderGave (table : Table) (master : Option Keys) (name : List ℕ) (form 
   gives : GivesKeysetIn table master form bytes keyset
   are : keys_for keyset ≡ Some keys
   most : ℕ
-  least : GivesAtMost old.files (stretch_for keys ad range) most
+  least : GivesAtMost old.files (range_for keys ad range) most
   past : s ≡ status.PastEnd → most ≤ 2 * largest_of keys.keys
   within : GaveWithin old new (limit_under master + most)
 
 under_gave : (table : Table) (master : Option Keys) (name : List ℕ) (form : Format) (ad : List ℕ) (range : AskedRange) (out : Option (List ℕ)) (old : World) (s : Status) (new : World)
-    → Ends (takes_under origins.Keyset table master (record { file = Some name; form = form }) (loads_behind (stretch_plan ad range out))) old s new → GaveWithin old.store new.store (limit_under master + 1) ⊎ UnderGave table master name form ad range old.store s new.store
+    → Ends (takes_under origins.Keyset table master (record { file = Some name; form = form }) (loads_behind (range_plan ad range out))) old s new → GaveWithin old.store new.store (limit_under master + 1) ⊎ UnderGave table master name form ad range old.store s new.store
 under_gave table master name form ad range out old s new (load_absent is only kept stood given holds) = inl (omega (arith, given))
 under_gave table master name form ad range out old s new (load_long is only kept stood given holds) = inl given
 under_gave table master name form ad range out old s new (load_failed is only kept rose given) = inl given
 under_gave table master name form ad range out old s new (load_starved is only kept stood given) = inl given
-under_gave table master name form ad range out old s new (loaded bytes store kept stood given within holds run) = by (under_ends origins.Keyset table master form bytes (loads_behind (stretch_plan ad range out)) mid s new run)
+under_gave table master name form ad range out old s new (loaded bytes store kept stood given within holds run) = by (under_ends origins.Keyset table master form bytes (loads_behind (range_plan ad range out)) mid s new run)
   where
     mid : World
     mid = record old { store = store }
@@ -202,10 +202,10 @@ under_gave table master name form ad range out old s new (loaded bytes store kep
     none : mid ≡ new → GaveWithin old.store new.store (limit_under master + 1)
     none same = let e : store.given ≡ new.store.given = ap (λ (w : World). w.store.given) same in omega (arith, given, within, e)
 
-    by_stretch : (keyset : Keys) → GivesKeysetIn table master form bytes keyset → (keys : KeysForStreams) → keys_for keyset ≡ Some keys → GaveWithin store new.store 0 ⊎ StretchGave (stretch_for keys ad range) store s new.store
+    by_file_range : (keyset : Keys) → GivesKeysetIn table master form bytes keyset → (keys : KeysForStreams) → keys_for keyset ≡ Some keys → GaveWithin store new.store 0 ⊎ FileRangeGave (range_for keys ad range) store s new.store
         → GaveWithin old.store new.store (limit_under master + 1) ⊎ UnderGave table master name form ad range old.store s new.store
-    by_stretch keyset gives keys are (inl later) = inl (omega (arith, given, within, later))
-    by_stretch keyset gives keys are (inr gave) = inr (record {
+    by_file_range keyset gives keys are (inl later) = inl (omega (arith, given, within, later))
+    by_file_range keyset gives keys are (inr gave) = inr (record {
       keys = keys;
       bytes = bytes;
       holds = holds;
@@ -213,24 +213,24 @@ under_gave table master name form ad range out old s new (loaded bytes store kep
       gives = gives;
       are = are;
       most = gave.most;
-      least = subst (λ (f : Option Files). GivesAtMost f (stretch_for keys ad range) gave.most) (sym kept.files) gave.least;
+      least = subst (λ (f : Option Files). GivesAtMost f (range_for keys ad range) gave.most) (sym kept.files) gave.least;
       past = gave.past;
       within = (let later = gave.within in omega (arith, given, within, later));
     })
 
-    by_keys : (keyset : Keys) → GivesKeysetIn table master form bytes keyset → (keys : KeysForStreams) → keys_for keyset ≡ Some keys → Ends (stretch_plan ad range out keys) mid s new
+    by_keys : (keyset : Keys) → GivesKeysetIn table master form bytes keyset → (keys : KeysForStreams) → keys_for keyset ≡ Some keys → Ends (range_plan ad range out keys) mid s new
         → GaveWithin old.store new.store (limit_under master + 1) ⊎ UnderGave table master name form ad range old.store s new.store
-    by_keys keyset gives keys are (inl run) = by_stretch keyset gives keys are (stretch_gave (stretch_for keys ad range) out mid s new run)
+    by_keys keyset gives keys are (inl run) = by_file_range keyset gives keys are (file_range_gave (range_for keys ad range) out mid s new run)
     by_keys keyset gives keys are (inr (is, same)) = inl (none same)
 
-    by_keyset : (keyset : Keys) → GivesKeysetIn table master form bytes keyset → (mid ≡ new) ⊎ WentOn (λ keys. keys_for keyset ≡ Some keys) (stretch_plan ad range out) mid s new
+    by_keyset : (keyset : Keys) → GivesKeysetIn table master form bytes keyset → (mid ≡ new) ⊎ WentOn (λ keys. keys_for keyset ≡ Some keys) (range_plan ad range out) mid s new
         → GaveWithin old.store new.store (limit_under master + 1) ⊎ UnderGave table master name form ad range old.store s new.store
     by_keyset keyset gives (inl same) = inl (none same)
     by_keyset keyset gives (inr went) = by_keys keyset gives went.value went.is went.run
 
-    by : (mid ≡ new) ⊎ WentOn (λ keys. GivesKeysetIn table master form bytes keys) (loads_behind (stretch_plan ad range out)) mid s new → GaveWithin old.store new.store (limit_under master + 1) ⊎ UnderGave table master name form ad range old.store s new.store
+    by : (mid ≡ new) ⊎ WentOn (λ keys. GivesKeysetIn table master form bytes keys) (loads_behind (range_plan ad range out)) mid s new → GaveWithin old.store new.store (limit_under master + 1) ⊎ UnderGave table master name form ad range old.store s new.store
     by (inl same) = inl (none same)
-    by (inr went) = by_keyset went.value went.is (streams_end went.value (stretch_plan ad range out) mid s new went.run)
+    by (inr went) = by_keyset went.value went.is (streams_end went.value (range_plan ad range out) mid s new went.run)
 
 -- what a lock gave, before it
 clear_gave : (table : Table) (name : List ℕ) (form : Format) (ad : List ℕ) (range : AskedRange) (old : StoreState) (s : Status) (new : StoreState) → GaveWithin old new (keyset_limit + 1) ⊎ UnderGave table None name form ad range old s new
@@ -260,7 +260,7 @@ locked_gave table lock name form ad range out old s new (loaded bytes store kept
     mid = record old { store = store }
 
     taken : Option Keys → Plan
-    taken master = takes_under origins.Keyset table master (record { file = Some name; form = form }) (loads_behind (stretch_plan ad range out))
+    taken master = takes_under origins.Keyset table master (record { file = Some name; form = form }) (loads_behind (range_plan ad range out))
 
     opens : Keys → Plan
     opens master = handles table Aead master (λ fit. taken (Some master))
@@ -275,7 +275,7 @@ locked_gave table lock name form ad range out old s new (loaded bytes store kept
       keys = g.keys;
       lie = record { master = Some master; opens = (bytes, holds, read); bytes = g.bytes; holds = held_before old.store store name (Some g.bytes) kept.files g.holds; keyset = g.keyset; gives = g.gives; are = g.are };
       most = g.most;
-      least = subst (λ (f : Option Files). GivesAtMost f (stretch_for g.keys ad range) g.most) (sym kept.files) g.least;
+      least = subst (λ (f : Option Files). GivesAtMost f (range_for g.keys ad range) g.most) (sym kept.files) g.least;
       past = g.past;
       within = (let later = g.within in omega (arith, given, within, later));
     })

@@ -10,8 +10,8 @@ use Rattle.tinkey_session.specs.Serving.{edit_named, or_refused, template_of, te
 use Rattle.tinkey_session.specs.declared.reply.Refusal.{Refusal}
 use Rattle.tinkey_words.specs.Words.{AskedEdit}
 use Rattle.tinkey_cmds.specs.Applying.{Applied}
-use Rattle.tinkey_cmds.specs.declared.command.CmdError.{CmdError}
-use Rattle.tinkey_cmds.specs.declared.command.CmdError.TheVariants as errors
+use Rattle.tinkey_cmds.specs.declared.command.EditError.{EditError}
+use Rattle.tinkey_cmds.specs.declared.command.EditError.TheVariants as errors
 use Rattle.tinkey_plans.specs.declared.status.Status.{Status}
 use Rattle.tinkey_plans.specs.declared.status.Status.TheVariants as status
 use Rattle.tinkey_plans.specs.Ends.{World, Ends, settled, draw_failed}
@@ -72,7 +72,7 @@ edit_passes asked w = found_passes (finds_edit asked) (edit_named asked) w (λ n
 pub made_passes : (give : Draw Keys) (old : World) (entropy : EntropyState) (keyset : Keyset) → Applied (Ok keyset) give old.entropy entropy → Passes (makes_keyset give) old (Ok keyset) (record old { entropy = entropy })
 made_passes give old entropy keyset (stood, (drawn, drew, settles)) = λ next s last run. settled drawn entropy (Ok keyset) drew stood settles (inl run)
 
-pub unmade_passes : (give : Draw Keys) (old : World) (entropy : EntropyState) (e : CmdError) → Applied (Err e) give old.entropy entropy → (next : Keys → Plan) → Ends (makes_keyset give next) old (edit_refusal e) (record old { entropy = entropy })
+pub unmade_passes : (give : Draw Keys) (old : World) (entropy : EntropyState) (e : EditError) → Applied (Err e) give old.entropy entropy → (next : Keys → Plan) → Ends (makes_keyset give next) old (edit_refusal e) (record old { entropy = entropy })
 unmade_passes give old entropy (errors.Refused fault) (stood, (drawn, drew, settles)) next = settled drawn entropy (Err fault) drew stood settles (inl (refl, refl))
 unmade_passes give old entropy errors.EntropyFault out next = draw_failed refl (record { source = refl; sink = refl; store = refl }) out
 unmade_passes give old entropy errors.NoMemory (stood, (given, (drawn, drew, settles))) next = settled drawn entropy given drew stood settles (inr (refl, refl))

@@ -5,7 +5,7 @@ use Rattle.key_msgs.specs.declared.primitive.Primitive.TheVariants.{Aead}
 use Rattle.keyset_model.specs.Keyset.{Keys}
 use Rattle.tinkey_cmds.specs.Draws.{Draw}
 use Rattle.tinkey_cmds.specs.Edits.{first, step}
-use Rattle.tinkey_cmds.specs.declared.command.CmdFault.{CmdFault}
+use Rattle.tinkey_cmds.specs.declared.command.EditRefusal.{EditRefusal}
 use Rattle.managers.specs.Table.{Table, scheme_at}
 use Rattle.seal_wrap.specs.Enveloping.{url_made}
 use Rattle.wrapped_prims.specs.Fitness.{unfit}
@@ -15,7 +15,7 @@ use Rattle.tinkey_plans.specs.Laws.{CommandsAreWhole}
 use Rattle.tinkey_plans.specs.declared.origin.Origin.TheVariants as origins
 use Rattle.tinkey_plans.specs.Plan.{writes, Plan}
 use Rattle.tinkey_plans.specs.Promises.{IsWhole}
-use Rattle.tinkey_plans.proofs.EachLemmas.{AreAll, IsClosed, IsOpen, dek_each, envelope_each, scheme_each, stretch_each, edit_each, fit_each, lines_each, loaded_each, lock_each, locked_each, made_each, new_lock_each, row_each, under_each, work_each, written_under_each}
+use Rattle.tinkey_plans.proofs.EachLemmas.{AreAll, IsClosed, IsOpen, dek_each, envelope_each, scheme_each, range_each, edit_each, fit_each, lines_each, loaded_each, lock_each, locked_each, made_each, new_lock_each, row_each, under_each, work_each, written_under_each}
 use Rattle.tinkey_plans.specs.KeyOf.{key_of_answer, stream_record_line, tells_front, tells_keys}
 use Rattle.tinkey_plans.specs.Locks.{puts_under}
 use Rattle.tinkey_plans.specs.Steps.{makes_keyset, puts}
@@ -26,7 +26,7 @@ use Rattle.segment_stream.specs.StreamKeys as streams
 use Rattle.tinkey_plans.specs.Streaming as streaming
 use Rattle.tinkey_selftest.specs.declared.counts.Counts.{Counts}
 use Rattle.tinkey_plans.specs.SelfTesting.{tells_counts}
-use Rattle.tinkey_words.specs.Words.{self_test, Place, primitive_for, create_keyset, edit_keyset, list_keyset, key_of, convert_keyset, list_key_templates, use_keyset, use_envelope, seal_stream, open_stream, reseal_stream, open_range, session, help, version}
+use Rattle.tinkey_words.specs.Words.{self_test, KeysetFile, primitive_for, create_keyset, edit_keyset, list_keyset, key_of, convert_keyset, list_key_templates, use_keyset, use_envelope, seal_stream, open_stream, reseal_stream, open_range, session, help, version}
 
 closed : IsClosed IsWhole
 closed = record { ended = λ s stated. tt; allocated = λ next all. all }
@@ -41,14 +41,14 @@ put_whole : (file : Option (List ℕ)) (output : List ℕ) → IsWhole (puts fil
 put_whole (Some name) output = tt
 put_whole None output = tt
 
-out_whole : (table : Table) (master : Option Keys) (out : Place) (keys : Keys) → IsWhole (puts_under table master out keys)
+out_whole : (table : Table) (master : Option Keys) (out : KeysetFile) (keys : Keys) → IsWhole (puts_under table master out keys)
 out_whole table master out keys = written_under_each IsWhole closed table master out.form keys (λ m next all. all) (puts out.file) (put_whole out.file)
 
 shown_whole : (hex : Bool) (file : Option (List ℕ)) (bytes : List ℕ) → IsWhole (shows hex bytes (puts file))
 shown_whole false file bytes = put_whole file bytes
 shown_whole true file bytes = put_whole file (hex_line bytes)
 
-counts_whole : (r : Result Counts CmdFault) (lines : ℕ) → IsWhole (tells_counts lines r writes)
+counts_whole : (r : Result Counts EditRefusal) (lines : ℕ) → IsWhole (tells_counts lines r writes)
 counts_whole (Ok n) lines = tt
 counts_whole (Err fault) lines = tt
 
@@ -81,7 +81,7 @@ commands_are_whole table (open_stream lock name form ad None) = inr (inl tt)
 commands_are_whole table (open_stream lock name form ad (Some out)) = inl (loaded_each IsWhole open' table lock name form _ (λ keys. stream_fit_whole (streams.stream_unfit keys) _ (stream_keys_whole (streaming.keys_for keys) _ (λ k output. tt))))
 commands_are_whole table (reseal_stream lock name form ad None) = inr (inl tt)
 commands_are_whole table (reseal_stream lock name form ad (Some out)) = inl (loaded_each IsWhole open' table lock name form _ (λ keys. stream_fit_whole (streams.stream_unfit keys) _ (stream_keys_whole (streaming.keys_for keys) _ (λ k made. made_each IsWhole closed made _ (λ random output. tt)))))
-commands_are_whole table (open_range lock name form ad range out) = inl (loaded_each IsWhole open' table lock name form _ (λ keys. stream_fit_whole (streams.stream_unfit keys) _ (stream_keys_whole (streaming.keys_for keys) _ (λ k opened. stretch_each IsWhole closed opened _ (put_whole out)))))
+commands_are_whole table (open_range lock name form ad range out) = inl (loaded_each IsWhole open' table lock name form _ (λ keys. stream_fit_whole (streams.stream_unfit keys) _ (stream_keys_whole (streaming.keys_for keys) _ (λ k opened. range_each IsWhole closed opened _ (put_whole out)))))
 commands_are_whole table (self_test seed lines) = inl (counts_whole (trial.self_test table seed lines) lines)
 commands_are_whole table (session lock name form out) = inr (inr tt)
 commands_are_whole table (help topic) = inl tt

@@ -1,16 +1,16 @@
 -- What the second line of a status advises, by the status alone.
 use Rattle.std.specs.Prelude.{ℕ, List, [], codes}
-use Rattle.keyset_model.specs.declared.keyset.KeysetFault.{KeysetFault}
-use Rattle.keyset_model.specs.declared.keyset.KeysetFault.TheVariants as faults
-use Rattle.tinkey_cmds.specs.declared.command.CmdFault.{CmdFault}
-use Rattle.tinkey_cmds.specs.declared.command.CmdFault.TheVariants as edits
+use Rattle.keyset_model.specs.declared.keyset.KeysetRefusal.{KeysetRefusal}
+use Rattle.keyset_model.specs.declared.keyset.KeysetRefusal.TheVariants as faults
+use Rattle.tinkey_cmds.specs.declared.command.EditRefusal.{EditRefusal}
+use Rattle.tinkey_cmds.specs.declared.command.EditRefusal.TheVariants as edits
 use Rattle.tinkey_session.specs.declared.reply.Refusal.{Refusal}
 use Rattle.tinkey_session.specs.declared.reply.Refusal.TheVariants as refused
 use Rattle.tinkey_plans.specs.declared.status.Status.{Status}
 use Rattle.tinkey_plans.specs.declared.status.Status.TheVariants as status
 
 -- of an edit that is refused
-unfoldable pub edit_advice : CmdFault → List ℕ
+unfoldable pub edit_advice : EditRefusal → List ℕ
 edit_advice edits.KeyNotFound = codes "tinkey: list-keyset shows the ids of the keys\n"
 edit_advice edits.KeyIsPrimary =
     codes "tinkey: make another key the primary first: promote-key, or rotate-keyset\n"
@@ -43,7 +43,7 @@ refusal_advice refused.VerifyFailed =
     codes "tinkey: no ENABLED key of the keyset makes this tag of this input\n"
 
 -- of a keyset's fault
-unfoldable pub keyset_advice : KeysetFault → List ℕ
+unfoldable pub keyset_advice : KeysetRefusal → List ℕ
 keyset_advice faults.Empty = codes "tinkey: the input is empty, or it lists no key\n"
 keyset_advice faults.TooMany = codes "tinkey: a keyset has at most 1000 keys\n"
 keyset_advice (faults.UnknownStatus i) =

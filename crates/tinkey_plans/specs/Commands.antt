@@ -25,7 +25,7 @@ use Rattle.tinkey_plans.specs.Steps.{works_out, finds_template, finds_edit, make
 use Rattle.tinkey_plans.specs.Streaming.{loads_stream_keys, begins_file, seals_stream, opens_stream, reseals_stream}
 use Rattle.tinkey_plans.specs.Using.{puts_output, use_output}
 use Rattle.tinkey_words.specs.declared.words.misuse.Misuse.{Misuse}
-use Rattle.tinkey_words.specs.Words.{Place, AskedEdit, Asked, Lock, NewLock, create_keyset, edit_keyset, list_keyset, key_of, convert_keyset, list_key_templates, use_keyset, use_envelope, seal_stream, open_stream, reseal_stream, open_range, self_test, session, help, version, words_of}
+use Rattle.tinkey_words.specs.Words.{KeysetFile, AskedEdit, Asked, Lock, NewLock, create_keyset, edit_keyset, list_keyset, key_of, convert_keyset, list_key_templates, use_keyset, use_envelope, seal_stream, open_stream, reseal_stream, open_range, self_test, session, help, version, words_of}
 
 -- create-keyset: a keyset of one new key, and the master that it is put under
 abbrev pub create_output : Table → Lock → List ℕ → (Option Keys → Keys → Plan) → Plan
@@ -35,7 +35,7 @@ create_output table lock name next =
     makes_keyset (first row) (next master)))
 
 -- an edit: the keyset that it makes of the one that it takes, and the master of both
-abbrev pub edit_output : Table → Lock → AskedEdit → Place → (Option Keys → Keys → Plan) → Plan
+abbrev pub edit_output : Table → Lock → AskedEdit → KeysetFile → (Option Keys → Keys → Plan) → Plan
 edit_output table lock asked in' next =
     finds_edit asked (λ edit.
     opens_lock table lock (λ master.
@@ -43,13 +43,13 @@ edit_output table lock asked in' next =
     makes_keyset (step keys edit) (next master))))
 
 -- list-keyset: the listing of a keyset
-abbrev pub list_keyset_output : Table → Lock → Place → (List ℕ → Plan) → Plan
+abbrev pub list_keyset_output : Table → Lock → KeysetFile → (List ℕ → Plan) → Plan
 list_keyset_output table lock in' next =
     takes_locked origins.In table lock in' (λ keys. works_out (info_of keys) next)
 
 -- convert-keyset: the keyset that is taken, and the master that it is put under. Both masters are opened
 -- before the keyset is taken.
-abbrev pub convert_output : Table → Lock → NewLock → Place → (Option Keys → Keys → Plan) → Plan
+abbrev pub convert_output : Table → Lock → NewLock → KeysetFile → (Option Keys → Keys → Plan) → Plan
 convert_output table lock new in' next =
     opens_lock table lock (λ taken.
     opens_new_lock table new taken (λ put.

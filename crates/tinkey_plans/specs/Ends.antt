@@ -8,13 +8,13 @@ use Rattle.segment_stream.specs.declared.fault.OpenPumpFault.{OpenPumpFault}
 use Rattle.segment_stream.specs.declared.fault.OpenPumpFault.TheVariants as faults
 use Rattle.tinkey_cmds.specs.Draws.{Draw, answered}
 use Rattle.tinkey_cmds.specs.Applying.{RanOut}
-use Rattle.tinkey_cmds.specs.declared.command.CmdFault.{CmdFault}
+use Rattle.tinkey_cmds.specs.declared.command.EditRefusal.{EditRefusal}
 use Rattle.keyset_model.specs.Keyset.{Keys}
 use Rattle.tinkey_session.specs.Talking.{Exchange}
 use Rattle.tinkey_session.specs.Talks.{Sides, sides, Talks, IsSteady}
 use Rattle.tinkey_session.specs.declared.talk.TalkFault.{TalkFault}
 use Rattle.tinkey_session.specs.declared.talk.TalkFault.TheVariants as talk_faults
-use Rattle.tinkey_plans.specs.Stretch.{Opened, Stretch, GivesAtMost, HoldsStretch, IsShortPast}
+use Rattle.tinkey_plans.specs.FileRange.{Opened, FileRange, GivesAtMost, HoldsRange, IsShortPast}
 use Rattle.tinkey_plans.specs.declared.status.Status.{Status}
 use Rattle.tinkey_plans.specs.declared.status.Status.TheVariants as status
 use Rattle.tinkey_plans.specs.Plan.{Plan, ends, writes, creates, looks, allocates, loads, reads_all, reads_front, ranges, draws, pumps, collects, exchanges, Made, Of, IsMadeInParts, stream_status}
@@ -125,13 +125,13 @@ pub data EndsLoading (name : List ℕ) (limit : ℕ) (absent long : Status)
       Stood old.store.faults new.store.faults → GaveWithin old.store new.store (limit + 1) →
       EndsLoading name limit absent long Then old s new
 
--- The stretch was opened or refused, and then it went on; or the file is missing; or the store failed, or
+-- The range was opened or refused, and then it went on; or the file is missing; or the store failed, or
 -- memory was wanting. No more was read than that takes.
-pub data EndsRanging (x : Stretch) (absent : Status) (Then : Opened → World → Status → World → Type 0)
+pub data EndsRanging (x : FileRange) (absent : Status) (Then : Opened → World → Status → World → Type 0)
     (old : World) (s : Status) (new : World) : Type 0 where
   ranged : (opened : Opened) (store : StoreState) (most : ℕ) → KeptFiles old.store store →
       Stood old.store.faults store.faults → GaveWithin old.store store most →
-      GivesAtMost old.store.files x most → IsShortPast x opened most → HoldsStretch old.store x opened →
+      GivesAtMost old.store.files x most → IsShortPast x opened most → HoldsRange old.store x opened →
       Then opened (record old { store = store }) s new → EndsRanging x absent Then old s new
   range_absent : s ≡ absent → OnlyStore old new → KeptFiles old.store new.store →
       Stood old.store.faults new.store.faults → GaveWithin old.store new.store 0 →
@@ -174,15 +174,15 @@ pub data EndsReadingFront (size : ℕ) (Then : List ℕ → World → Status →
       length piece < size → EndsReadingFront size Then old s new
 
 -- these bytes are all that is drawn, whatever stands behind them, and they give this
-abbrev pub Settles : {A : Type 0} → Draw A → (drawn : List ℕ) → Result A CmdFault → Type 0
+abbrev pub Settles : {A : Type 0} → Draw A → (drawn : List ℕ) → Result A EditRefusal → Type 0
 Settles give drawn given = (more : List ℕ) → give (drawn ++ more) ≡ answered given more
 
 -- the bytes were drawn that settle what is made or its refusal, and then it went on; or the entropy
 -- failed before they were there; or of what is made in parts memory was wanting before that
 pub data EndsDrawing (kind : Made) (give : Draw (Of kind))
-    (Then : Result (Of kind) CmdFault → World → Status → World → Type 0)
+    (Then : Result (Of kind) EditRefusal → World → Status → World → Type 0)
     (old : World) (s : Status) (new : World) : Type 0 where
-  settled : (drawn : List ℕ) (entropy : EntropyState) (given : Result (Of kind) CmdFault) →
+  settled : (drawn : List ℕ) (entropy : EntropyState) (given : Result (Of kind) EditRefusal) →
       Drew old.entropy entropy drawn → Stood old.entropy.faults entropy.faults →
       Settles give drawn given → Then given (record old { entropy = entropy }) s new →
       EndsDrawing kind give Then old s new
@@ -222,9 +222,9 @@ pub record EndsPumping (part : Part) (old : World) (s : Status) (new : World) : 
   pub shown : ShowsFaults result old.source new.source old.sink new.sink
   pub lasting : IsLasting part
 
--- Exactly these bytes were taken of the source. What they gave was kept aside: no file has changed, and sink and
+-- Exactly these bytes were taken of the source. What they gave was kept in a draft: no file has changed, and sink and
 -- entropy are as before.
-pub record KeptAside (old new : World) (taken : List ℕ) : Type 0 where
+pub record KeptDraft (old new : World) (taken : List ℕ) : Type 0 where
   pub sink : old.sink ≡ new.sink
   pub entropy : old.entropy ≡ new.entropy
   pub gave : Gave old.source new.source taken
@@ -232,7 +232,7 @@ pub record KeptAside (old new : World) (taken : List ℕ) : Type 0 where
   pub given : GaveWithin old.store new.store 0
 
 -- The pass came to its end, and then it went on with all of its output. Or it was refused; or the source failed
--- before that; or the store did, which keeps the output aside, with a byte of it still to come.
+-- before that; or the store did, which keeps the output in a draft, with a byte of it still to come.
 pub data EndsCollecting (part : Part) (Then : List ℕ → World → Status → World → Type 0)
     (old : World) (s : Status) (new : World) : Type 0 where
   collected : (all : List ℕ) (source : SourceState) (store : StoreState) → Gave old.source source all →
@@ -242,14 +242,14 @@ pub data EndsCollecting (part : Part) (Then : List ℕ → World → Status → 
       Then (part.output all true) (record old { source = source; store = store }) s new →
       EndsCollecting part Then old s new
   collect_refused : (taken : List ℕ) (ended : Bool) (refusal : StreamRefusal) →
-      s ≡ stream_status refusal → KeptAside old new taken →
+      s ≡ stream_status refusal → KeptDraft old new taken →
       Stood old.source.faults new.source.faults → Stood old.store.faults new.store.faults →
       (ended ≡ true → IsAtEnd new.source) → part.refusal taken ended ≡ Some refusal → IsLasting part →
       EndsCollecting part Then old s new
-  collect_unread : (taken : List ℕ) → s ≡ status.ReadFault → KeptAside old new taken →
+  collect_unread : (taken : List ℕ) → s ≡ status.ReadFault → KeptDraft old new taken →
       Rose old.source.faults new.source.faults → Stood old.store.faults new.store.faults →
       part.refusal taken false ≡ None → EndsCollecting part Then old s new
-  collect_unkept : (taken : List ℕ) (ended : Bool) → s ≡ status.StoreFault → KeptAside old new taken →
+  collect_unkept : (taken : List ℕ) (ended : Bool) → s ≡ status.StoreFault → KeptDraft old new taken →
       Stood old.source.faults new.source.faults → Rose old.store.faults new.store.faults →
       0 < length (part.output taken ended) → EndsCollecting part Then old s new
 
@@ -286,8 +286,8 @@ Ends (looks name taken stated next) old s new = EndsLooking name taken (Ends nex
 Ends (allocates next) old s new = Ends next old s new ⊎ ((s ≡ status.NoMemory) × (old ≡ new))
 Ends (loads name limit absent long a l next) old s new =
     EndsLoading name limit absent long (λ bytes. Ends (next bytes)) old s new
-Ends (ranges stretch absent a next) old s new =
-    EndsRanging stretch absent (λ opened. Ends (next opened)) old s new
+Ends (ranges range absent a next) old s new =
+    EndsRanging range absent (λ opened. Ends (next opened)) old s new
 Ends (reads_all limit long stated next) old s new =
     EndsReading limit long (λ all. Ends (next all)) old s new
 Ends (reads_front size next) old s new = EndsReadingFront size (λ front. Ends (next front)) old s new

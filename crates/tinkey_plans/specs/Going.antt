@@ -15,12 +15,12 @@ use Rattle.wrapped_prims.specs.Answers.{Sealed, primary_key, seal_answer}
 use Rattle.tinkey_plans.specs.declared.status.Status.TheVariants as status
 use Rattle.tinkey_plans.specs.Commands.{command_plan}
 use Rattle.tinkey_plans.specs.Laws.{IsFit}
-use Rattle.tinkey_plans.specs.Stretch.{stretch_in}
+use Rattle.tinkey_plans.specs.FileRange.{range_in}
 use Rattle.tinkey_plans.specs.Plan.{Of, Plan, Told, answer, ends, writes, creates, looks, allocates, loads, reads_all, reads_front, ranges, draws, pumps, collects, exchanges}
 use Rattle.tinkey_words.specs.Words.{Asked}
 
 -- The end is Done; the name of a new file is free; a file to load is there, within its limit, and one to
--- open a stretch of is there; the input is within its limit; the random bytes suffice for what is made; a stream isn't refused; and a
+-- open a range of is there; the input is within its limit; the random bytes suffice for what is made; a stream isn't refused; and a
 -- session comes to the end of its input.
 abbrev pub NoneRefuses : Plan → Told → Type 0
 NoneRefuses (ends s stated) told = s ≡ status.Done
@@ -33,7 +33,7 @@ NoneRefuses (loads name limit absent long a l next) told =
     × NoneRefuses (next bytes) told
 NoneRefuses (ranges x absent a next) told =
     (bytes : List ℕ) × (map.get told.files x.name ≡ Some bytes)
-    × NoneRefuses (next (stretch_in x bytes)) told
+    × NoneRefuses (next (range_in x bytes)) told
 NoneRefuses (reads_all limit long stated next) told =
     (length told.input ≤ limit) × NoneRefuses (next told.input) (record told { input = [] })
 NoneRefuses (reads_front size next) told =

@@ -9,7 +9,7 @@ use Rattle.tinkey_session.specs.Serving.{cannot_serve}
 use Rattle.tinkey_session.specs.declared.reply.Refusal.{Refusal}
 use Rattle.wrapped_prims.specs.Fitness.{Unfit, unfit}
 use Rattle.wrapped_prims.specs.Making.{IsOver}
-use Rattle.wrapped_prims.specs.declared.handle.HandleFault.{HandleFault}
+use Rattle.wrapped_prims.specs.declared.handle.HandleError.{HandleError}
 use Rattle.wrapped_prims.specs.declared.held.Held.{Held}
 use Rattle.tinkey_plans.specs.Plan.{Plan, ends, allocates}
 use Rattle.tinkey_plans.specs.declared.status.Status.{Status}
@@ -30,7 +30,7 @@ refused_or_starved (Some why) = status.Refused why
 refused_or_starved None = status.NoMemory
 
 -- the status of a keyset that can't serve, and of want of memory
-abbrev pub handle_refusal : HandleFault → Status
+abbrev pub handle_refusal : HandleError → Status
 handle_refusal fault = refused_or_starved (refusal_in fault)
 
 -- what is held is some keyset whose records can serve

@@ -14,7 +14,7 @@ use Rattle.seal_wrap.specs.Unwrapped.{unwrap_of}
 use Rattle.tink_spec.specs.Files.{Holds, StoreState}
 use Rattle.tink_spec.specs.Outside.{Took, TookPrefix}
 use Rattle.tinkey_cmds.specs.Edits.{id_of}
-use Rattle.tinkey_cmds.specs.declared.command.CmdFault.TheVariants.{IdsExhausted}
+use Rattle.tinkey_cmds.specs.declared.command.EditRefusal.TheVariants.{IdsExhausted}
 use Rattle.tinkey_session.specs.declared.reply.Refusal.TheVariants.{Command}
 use Rattle.tinkey_selftest.specs.Numbers.{random_bytes}
 use Rattle.tinkey_selftest.specs.Telling.{counts_text}
@@ -28,10 +28,10 @@ use Rattle.tinkey_plans.specs.Commands.{command_plan, plan_of}
 use Rattle.tinkey_plans.specs.Ends.{World, Ends, GaveWithin}
 use Rattle.tinkey_plans.specs.Plan.{Answer, Told, answer}
 use Rattle.tinkey_plans.specs.Promises.{IsWhole}
-use Rattle.tinkey_plans.specs.Ranging.{stretch_for}
+use Rattle.tinkey_plans.specs.Ranging.{range_for}
 use Rattle.tinkey_plans.specs.Steps.{keyset_limit}
 use Rattle.tinkey_plans.specs.Streaming.{keys_for}
-use Rattle.tinkey_plans.specs.Stretch.{GivesAtMost}
+use Rattle.tinkey_plans.specs.FileRange.{GivesAtMost}
 use Rattle.tinkey_plans.specs.Wrapping.{is_json, wrapped_limit}
 use Rattle.tinkey_words.specs.declared.words.rows.Format.{Format}
 use Rattle.tinkey_words.specs.declared.words.rows.Format.TheVariants as formats
@@ -131,7 +131,7 @@ pub record RangeGave (table : Table) (lock : Lock) (name : List ℕ) (form : For
   pub keys : KeysForStreams
   pub lie : KeysLieIn table old lock name form keys
   pub most : ℕ
-  pub least : GivesAtMost old.files (stretch_for keys ad range) most
+  pub least : GivesAtMost old.files (range_for keys ad range) most
   pub past : s ≡ status.PastEnd → most ≤ 2 * largest_of keys.keys
   pub within : GaveWithin old new (limit_behind lock + most)
 

@@ -19,7 +19,7 @@ pub mod Retiring
 pub mod Session
 pub mod Status
 pub mod Steps
-pub mod Stretch
+pub mod FileRange
 pub mod Streaming
 pub mod Using
 pub mod Wrapping

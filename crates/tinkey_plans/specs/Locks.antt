@@ -15,7 +15,7 @@ use Rattle.tinkey_plans.specs.declared.origin.Origin.TheVariants as origins
 use Rattle.tinkey_plans.specs.declared.status.Status.{Status}
 use Rattle.tinkey_words.specs.declared.words.rows.Format.{Format}
 use Rattle.tinkey_words.specs.declared.words.rows.Format.TheVariants as formats
-use Rattle.tinkey_words.specs.Words.{Lock, Master, NewLock, Place, as_taken, in_clear, under}
+use Rattle.tinkey_words.specs.Words.{Lock, Master, NewLock, KeysetFile, as_taken, in_clear, under}
 
 -- the keyset of this master, which this option gives, and each ENABLED record of which can serve as an AEAD
 abbrev pub opens_master : Origin → Table → Master → (Option Keys → Plan) → Plan
@@ -51,13 +51,13 @@ keyset_under from table (Some master) form bytes next = unwraps from master tabl
 
 -- the keyset that lies at this place, in clear or under a master; its file, where it has one, is what this
 -- option gives
-abbrev pub takes_under : Origin → Table → (master : Option Keys) → Place → (Keys → Plan) → Plan
+abbrev pub takes_under : Origin → Table → (master : Option Keys) → KeysetFile → (Keys → Plan) → Plan
 takes_under from table master place next =
     takes_bytes from (limit_under master) place.file (λ bytes.
     keyset_under (origin_of from place.file) table master place.form bytes next)
 
 -- the same of a lock, which is opened before the keyset is taken
-abbrev pub takes_locked : Origin → Table → Lock → Place → (Keys → Plan) → Plan
+abbrev pub takes_locked : Origin → Table → Lock → KeysetFile → (Keys → Plan) → Plan
 takes_locked from table lock place next =
     opens_lock table lock (λ master. takes_under from table master place next)
 
@@ -75,7 +75,7 @@ writes_under table (Some master) form keys next =
     writes_keyset formats.Binary keys (λ plain. makes_wrapped keys master table form next)
 
 -- it becomes a new file, or where none is named, goes to the sink
-abbrev pub puts_under : Table → (master : Option Keys) → Place → Keys → Plan
+abbrev pub puts_under : Table → (master : Option Keys) → KeysetFile → Keys → Plan
 puts_under table master place keys = writes_under table master place.form keys (puts place.file)
 
 -- What is held of a lock, with the table that it is held under, is a master's keyset, with its keys, which can

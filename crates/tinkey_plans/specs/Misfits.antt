@@ -3,13 +3,13 @@ use Rattle.std.specs.Prelude.{ℕ, List, [], ◌++◌, codes}
 use Rattle.tinkey_words.specs.declared.words.misuse.Misfit.{Misfit}
 use Rattle.tinkey_words.specs.declared.words.misuse.Misfit.TheVariants as misfits
 use Rattle.tinkey_words.specs.declared.words.names.CommandName.{CommandName}
-use Rattle.tinkey_words.specs.declared.words.rows.Form.{Form}
-use Rattle.tinkey_words.specs.declared.words.rows.Form.TheVariants as forms
+use Rattle.tinkey_words.specs.declared.words.rows.ValueForm.{ValueForm}
+use Rattle.tinkey_words.specs.declared.words.rows.ValueForm.TheVariants as forms
 use Rattle.tinkey_words.specs.Names.{form_for, option_row, row_of}
-use Rattle.tinkey_words.specs.Rows.{aside}
+use Rattle.tinkey_words.specs.Rows.{temporary}
 
 -- what a value of this form is
-unfoldable pub form_text : Form → List ℕ
+unfoldable pub form_text : ValueForm → List ℕ
 form_text forms.Text = codes "a name"
 form_text forms.FileName = codes "the name of a file"
 form_text forms.Input = codes "the name of a file, or -"
@@ -27,7 +27,7 @@ form_text forms.Hex = codes "at most 1048576 bytes in hexadecimal"
 form_text forms.Flag = codes "no value"
 
 -- why a dash is none, and what to name in its place
-unfoldable pub dash_text : Form → List ℕ
+unfoldable pub dash_text : ValueForm → List ℕ
 dash_text forms.NewFile = codes ": the replies are on standard output"
 dash_text _ = codes " for standard input: name /dev/stdin or /dev/fd/3"
 
@@ -48,8 +48,8 @@ misfit_text (misfits.Beside command name other) =
     told_of (option_row name).word (codes " stands beside ") (option_row other).word command
 misfit_text (misfits.BadValue command name) =
     told_of (option_row name).word (codes " takes ") (form_text (form_for name command)) command
-misfit_text (misfits.Aside command name) =
-    told_of (option_row name).word (codes " takes no name that begins as tinkey's own do, ") aside command
+misfit_text (misfits.Temporary command name) =
+    told_of (option_row name).word (codes " takes no name that begins as tinkey's own do, ") temporary command
 misfit_text (misfits.Dash command name) =
     told_of (option_row name).word (codes " takes no -") (dash_text (form_for name command)) command
 misfit_text (misfits.OddHex command name) =

@@ -8,9 +8,9 @@ use Rattle.keyset_model.specs.Keyset.{Keys}
 use Rattle.segment_stream.specs.Opening.{StreamRefusal, too_many, failed}
 use Rattle.segment_stream.specs.Pumping.{Part}
 use Rattle.tinkey_cmds.specs.Draws.{Draw, Drawn}
-use Rattle.tinkey_cmds.specs.declared.command.CmdFault.{CmdFault}
+use Rattle.tinkey_cmds.specs.declared.command.EditRefusal.{EditRefusal}
 use Rattle.tinkey_session.specs.Talking.{Exchange, Talk, Stop, goes, wants, passes, Limit, long_line, many_lines}
-use Rattle.tinkey_plans.specs.Stretch.{Opened, Stretch, stretch_in}
+use Rattle.tinkey_plans.specs.FileRange.{Opened, FileRange, range_in}
 use Rattle.tinkey_plans.specs.declared.status.Status.{Status}
 use Rattle.tinkey_plans.specs.declared.status.Status.TheVariants as status
 
@@ -62,11 +62,11 @@ pub data Plan : Type 0 where
   -- the first bytes of the source are read, so many, or all of them where there are fewer; no byte behind them
   -- is taken
   reads_front : (size : ℕ) → (next : List ℕ → Plan) → Plan
-  -- a stretch of the stream in a file is opened; it or its refusal goes on, and a file that is missing is
+  -- a range of the stream in a file is opened; it or its refusal goes on, and a file that is missing is
   -- answered so
-  ranges : (stretch : Stretch) (absent : Status) → IsStated absent → (next : Opened → Plan) → Plan
+  ranges : (range : FileRange) (absent : Status) → IsStated absent → (next : Opened → Plan) → Plan
   -- something is made of random bytes, as many as that takes; it or its refusal goes on
-  draws : (kind : Made) → (give : Draw (Of kind)) → (next : Result (Of kind) CmdFault → Plan) → Plan
+  draws : (kind : Made) → (give : Draw (Of kind)) → (next : Result (Of kind) EditRefusal → Plan) → Plan
   -- the source is read and the sink written in turn: what is settled is given out, and what is decided
   -- is the answer
   pumps : (part : Part) → Plan
@@ -150,10 +150,10 @@ load_answer None limit absent long next = absent
 load_answer (Some bytes) limit absent long next =
     if nat_le (length bytes) limit then next bytes else long
 
--- the answer after a stretch was opened
-abbrev pub range_answer : Option (List ℕ) → Stretch → Answer → (Opened → Answer) → Answer
-range_answer None stretch absent next = absent
-range_answer (Some bytes) stretch absent next = next (stretch_in stretch bytes)
+-- the answer after a range was opened
+abbrev pub range_answer : Option (List ℕ) → FileRange → Answer → (Opened → Answer) → Answer
+range_answer None range absent next = absent
+range_answer (Some bytes) range absent next = next (range_in range bytes)
 
 -- the answer of a new file of this name, where that is free
 abbrev pub create_answer : Option (List ℕ) → Told → (name output : List ℕ) → Answer → Answer
@@ -189,8 +189,8 @@ answer (reads_all limit long stated next) told =
     else record (refused told long) { input = Some (drop (limit + 1) told.input) }
 answer (reads_front size next) told =
     answer (next (take size told.input)) (record told { input = drop size told.input })
-answer (ranges stretch absent a next) told =
-    range_answer (map.get told.files stretch.name) stretch (refused told absent)
+answer (ranges range absent a next) told =
+    range_answer (map.get told.files range.name) range (refused told absent)
     (λ opened. answer (next opened) told)
 answer (draws kind give next) told =
     draw_answer (give told.random) (refused told status.EntropyFault)

@@ -6,13 +6,13 @@ use Rattle.tink_spec.specs.Outside.{Rose, Stood, Gave, Took, TookPrefix, DrewLos
 use Rattle.segment_stream.specs.Opening.{StreamRefusal}
 use Rattle.keyset_model.specs.Keyset.{Keys}
 use Rattle.segment_stream.specs.Pumping.{Part}
-use Rattle.tinkey_cmds.specs.declared.command.CmdFault.{CmdFault}
+use Rattle.tinkey_cmds.specs.declared.command.EditRefusal.{EditRefusal}
 use Rattle.tinkey_session.specs.Talking.{Exchange, Limit, Stop, goes, wants, passes}
 use Rattle.tinkey_plans.specs.declared.status.Status.{Status}
 use Rattle.tinkey_plans.specs.declared.status.Status.TheVariants as status
 use Rattle.tinkey_plans.specs.Plan.{Plan, ends, writes, creates, looks, allocates, loads, reads_all, reads_front, ranges, draws, pumps, collects, exchanges, Of, IsMadeInParts, Told, Answer, answer, stream_status, limit_status, IsStated}
 use Rattle.tinkey_plans.specs.Ends.{World, Ends, GaveWithin, Settles}
-use Rattle.tinkey_plans.specs.Stretch.{Opened, GivesAtMost, HoldsStretch, IsShortPast}
+use Rattle.tinkey_plans.specs.FileRange.{Opened, GivesAtMost, HoldsRange, IsShortPast}
 
 -- the objects tell these bytes
 pub record Tells (w : World) (told : Told) : Type 0 where
@@ -84,13 +84,13 @@ pub data IsPassLeft (part : Part) (s : Status) (taken written : List ℕ) : Type
       IsPassLeft part s taken written
 
 -- A pass of which nothing is given out before its end is left where what was taken decides this status; where a
--- read failed before that; or where the store failed, and a byte of its output was to be kept aside.
-pub data IsAsideLeft (part : Part) (s : Status) (taken : List ℕ) : Type 0 where
-  aside_refused : (ended : Bool) (refusal : StreamRefusal) → s ≡ stream_status refusal →
-      part.refusal taken ended ≡ Some refusal → IsAsideLeft part s taken
-  aside_unread : s ≡ status.ReadFault → part.refusal taken false ≡ None → IsAsideLeft part s taken
-  aside_unkept : (ended : Bool) → s ≡ status.StoreFault → 0 < length (part.output taken ended) →
-      IsAsideLeft part s taken
+-- read failed before that; or where the store failed, and a byte of its output was to be kept in a draft.
+pub data IsDraftLeft (part : Part) (s : Status) (taken : List ℕ) : Type 0 where
+  draft_refused : (ended : Bool) (refusal : StreamRefusal) → s ≡ stream_status refusal →
+      part.refusal taken ended ≡ Some refusal → IsDraftLeft part s taken
+  draft_unread : s ≡ status.ReadFault → part.refusal taken false ≡ None → IsDraftLeft part s taken
+  draft_unkept : (ended : Bool) → s ≡ status.StoreFault → 0 < length (part.output taken ended) →
+      IsDraftLeft part s taken
 
 -- Over the bytes taken, with all the random bytes drawn, the session stands so, and the replies to
 -- the lines among them were written.
@@ -155,7 +155,7 @@ IsLeft (loads name limit absent long a l next) files s moved =
 IsLeft (ranges x absent a next) files s moved =
     ((moved ≡ nothing) × (((s ≡ absent) × Holds (over_files files) x.name None)
     ⊎ (s ≡ status.StoreFault) ⊎ (s ≡ status.NoMemory)))
-    ⊎ ((opened : Opened) × HoldsStretch (over_files files) x opened
+    ⊎ ((opened : Opened) × HoldsRange (over_files files) x opened
     × IsLeft (next opened) files s moved)
 IsLeft (reads_all limit long stated next) files s moved =
     ((moved ≡ record nothing { taken = moved.taken })
@@ -171,13 +171,13 @@ IsLeft (reads_front size next) files s moved =
 IsLeft (draws kind give next) files s moved =
     (((s ≡ status.EntropyFault) ⊎ ((s ≡ status.NoMemory) × IsMadeInParts kind))
     × (give moved.drawn ≡ None) × (moved ≡ record nothing { drawn = moved.drawn }))
-    ⊎ ((drawn : List ℕ) × (more : List ℕ) × (given : Result (Of kind) CmdFault)
+    ⊎ ((drawn : List ℕ) × (more : List ℕ) × (given : Result (Of kind) EditRefusal)
     × (drawn ++ more ≡ moved.drawn) × Settles give drawn given
     × IsLeft (next given) files s (record moved { drawn = more }))
 IsLeft (pumps part) files s moved =
     (moved ≡ record moved { drawn = [] }) × IsPassLeft part s moved.taken moved.written
 IsLeft (collects part next) files s moved =
-    ((moved ≡ record nothing { taken = moved.taken }) × IsAsideLeft part s moved.taken)
+    ((moved ≡ record nothing { taken = moved.taken }) × IsDraftLeft part s moved.taken)
     ⊎ ((all : List ℕ) × (more : List ℕ) × (all ++ more ≡ moved.taken) × (part.refusal all true ≡ None)
     × IsLeft (next (part.output all true)) files s (record moved { taken = more }))
 IsLeft (exchanges exchange next) files s moved =
@@ -197,7 +197,7 @@ IsWhole (loads name limit absent long a l next) = (bytes : List ℕ) → IsWhole
 IsWhole (ranges x absent a next) = (opened : Opened) → IsWhole (next opened)
 IsWhole (reads_all limit long stated next) = (all : List ℕ) → IsWhole (next all)
 IsWhole (reads_front size next) = (front : List ℕ) → IsWhole (next front)
-IsWhole (draws kind give next) = (given : Result (Of kind) CmdFault) → IsWhole (next given)
+IsWhole (draws kind give next) = (given : Result (Of kind) EditRefusal) → IsWhole (next given)
 IsWhole (pumps part) = ⊥
 IsWhole (collects part next) = (output : List ℕ) → IsWhole (next output)
 IsWhole (exchanges exchange next) = ⊥
@@ -215,7 +215,7 @@ pub record Leaves (p : Plan) (old : World) (s : Status) (new : World) : Type 0 w
   pub is : IsLeft p old.store.files s moved
 
 -- A run of the plan over these files may be given so many bytes of them: each file that was loaded, one byte
--- more than its limit of one that wasn't, of a stretch what it takes, and nothing else.
+-- more than its limit of one that wasn't, of a range what it takes, and nothing else.
 abbrev pub MayGive : Plan → Option Files → (given : ℕ) → Type 0
 MayGive (ends stated_status stated) files given = given ≡ 0
 MayGive (writes output) files given = given ≡ 0
@@ -228,7 +228,7 @@ MayGive (loads name limit absent long a l next) files given =
     × (length bytes ≤ limit) × (given ≡ length bytes + more) × MayGive (next bytes) files more)
 MayGive (ranges x absent a next) files given =
     (given ≡ 0) ⊎ GivesAtMost files x given
-    ⊎ ((opened : Opened) × (most : ℕ) × (more : ℕ) × HoldsStretch (over_files files) x opened
+    ⊎ ((opened : Opened) × (most : ℕ) × (more : ℕ) × HoldsRange (over_files files) x opened
     × GivesAtMost files x most × IsShortPast x opened most
     × (given ≡ most + more) × MayGive (next opened) files more)
 MayGive (reads_all limit long stated next) files given =
@@ -236,7 +236,7 @@ MayGive (reads_all limit long stated next) files given =
 MayGive (reads_front size next) files given =
     (given ≡ 0) ⊎ ((front : List ℕ) × MayGive (next front) files given)
 MayGive (draws kind give next) files given =
-    (given ≡ 0) ⊎ ((drawn : Result (Of kind) CmdFault) × MayGive (next drawn) files given)
+    (given ≡ 0) ⊎ ((drawn : Result (Of kind) EditRefusal) × MayGive (next drawn) files given)
 MayGive (pumps part) files given = given ≡ 0
 MayGive (collects part next) files given =
     (given ≡ 0) ⊎ ((output : List ℕ) × MayGive (next output) files given)

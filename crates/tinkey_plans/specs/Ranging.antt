@@ -13,15 +13,15 @@ use Rattle.tinkey_plans.specs.declared.status.Status.{Status}
 use Rattle.tinkey_plans.specs.declared.status.Status.TheVariants as status
 use Rattle.tinkey_plans.specs.Plan.{Plan, ends, allocates, ranges}
 use Rattle.tinkey_plans.specs.Streaming.{loads_stream_keys}
-use Rattle.tinkey_plans.specs.Stretch.{Opened, Stretch}
+use Rattle.tinkey_plans.specs.FileRange.{Opened, FileRange}
 use Rattle.tinkey_words.specs.declared.words.rows.Format.{Format}
 use Rattle.tinkey_words.specs.Words.{AskedRange, Lock}
 
 -- the plaintext goes on, or its refusal is the answer
-abbrev pub with_stretch : Opened → (List ℕ → Plan) → Plan
-with_stretch (Ok plain) next = next plain
-with_stretch (Err (stream_failed number)) next = ends (status.StreamFailed number) tt
-with_stretch (Err past_end) next = ends status.PastEnd tt
+abbrev pub with_range : Opened → (List ℕ → Plan) → Plan
+with_range (Ok plain) next = next plain
+with_range (Err (stream_failed number)) next = ends (status.StreamFailed number) tt
+with_range (Err past_end) next = ends status.PastEnd tt
 
 -- the status of a range that isn't opened, and of want of memory
 abbrev pub range_status : RangeFault → Status
@@ -36,8 +36,8 @@ opened_or (Ok plain) = Ok plain.items
 opened_or (Err fault) = Err (range_status fault)
 
 -- the range that is asked for, under these keys
-abbrev pub stretch_for : KeysForStreams → (ad : List ℕ) → AskedRange → Stretch
-stretch_for keys ad range = record {
+abbrev pub range_for : KeysForStreams → (ad : List ℕ) → AskedRange → FileRange
+range_for keys ad range = record {
   name = range.file;
   keys = ciphers_of ad keys.keys;
   largest = largest_of keys.keys;
@@ -46,13 +46,13 @@ stretch_for keys ad range = record {
 }
 
 -- it is opened
-abbrev pub opens_stretch : KeysForStreams → (ad : List ℕ) → AskedRange → (List ℕ → Plan) → Plan
-opens_stretch keys ad range next =
-    allocates (ranges (stretch_for keys ad range) status.StreamMissing tt
-    (λ opened. with_stretch opened next))
+abbrev pub opens_file_range : KeysForStreams → (ad : List ℕ) → AskedRange → (List ℕ → Plan) → Plan
+opens_file_range keys ad range next =
+    allocates (ranges (range_for keys ad range) status.StreamMissing tt
+    (λ opened. with_range opened next))
 
 -- srange: a range of a stream in a file, by the keys of the keyset in another one
 abbrev pub range_output : Table → Lock → List ℕ → Format → (ad : List ℕ) → AskedRange
     → (List ℕ → Plan) → Plan
 range_output table lock name form ad range next =
-    loads_stream_keys table lock name form (λ keys. opens_stretch keys ad range next)
+    loads_stream_keys table lock name form (λ keys. opens_file_range keys ad range next)

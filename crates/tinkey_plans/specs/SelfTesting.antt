@@ -2,7 +2,7 @@
 -- in Trial of tinkey_selftest.
 use Rattle.std.specs.Prelude.{ℕ, List, Result}
 use Rattle.managers.specs.Table.{Table}
-use Rattle.tinkey_cmds.specs.declared.command.CmdFault.{CmdFault}
+use Rattle.tinkey_cmds.specs.declared.command.EditRefusal.{EditRefusal}
 use Rattle.tinkey_session.specs.declared.reply.Refusal.TheVariants as refused
 use Rattle.tinkey_selftest.specs.Telling.{counts_text}
 use Rattle.tinkey_selftest.specs.Trial as trial
@@ -15,7 +15,7 @@ use Rattle.tinkey_plans.specs.Plan.{Plan, allocates}
 use Rattle.tinkey_plans.specs.Steps.{with_made}
 
 -- the line of the counts, where there is a first keyset
-abbrev pub tells_counts : (lines : ℕ) → Result Counts CmdFault → (List ℕ → Plan) → Plan
+abbrev pub tells_counts : (lines : ℕ) → Result Counts EditRefusal → (List ℕ → Plan) → Plan
 tells_counts lines counted next = allocates (with_made counted (λ n. next (counts_text lines n)))
 
 -- what becomes of so many lines, made from a number, under the table of the managers handed in

@@ -2,10 +2,10 @@
 use Rattle.std.specs.Prelude.{ℕ, List, [], ◌++◌, Option, Some, None, codes}
 use Rattle.std.specs.Fmt.{decimal}
 use Rattle.keyset_json.specs.Members.{name_of}
-use Rattle.keyset_model.specs.declared.keyset.KeysetFault.{KeysetFault}
-use Rattle.keyset_model.specs.declared.keyset.KeysetFault.TheVariants as faults
+use Rattle.keyset_model.specs.declared.keyset.KeysetRefusal.{KeysetRefusal}
+use Rattle.keyset_model.specs.declared.keyset.KeysetRefusal.TheVariants as faults
 use Rattle.tink_spec.specs.Outside.{SinkState, Rose, Took, TookPrefix}
-use Rattle.tinkey_cmds.specs.declared.command.CmdFault.TheVariants as edits
+use Rattle.tinkey_cmds.specs.declared.command.EditRefusal.TheVariants as edits
 use Rattle.tinkey_session.specs.declared.reply.LineRefusal.TheVariants as lines
 use Rattle.tinkey_session.specs.declared.reply.Refusal.TheVariants as refused
 use Rattle.tinkey_session.specs.Texts.{line_refusal_text, refusal_text}
@@ -61,7 +61,7 @@ code_of status.TooManyLines = 6
 code_of status.NoMemory = 7
 
 -- the text of a keyset's fault
-unfoldable pub fault_text : KeysetFault → List ℕ
+unfoldable pub fault_text : KeysetRefusal → List ℕ
 fault_text faults.Empty = codes "keyset has no key"
 fault_text faults.TooMany = codes "keyset has too many keys"
 fault_text (faults.UnknownStatus i) = codes "key " ++ decimal i ++ codes " has an unknown status"

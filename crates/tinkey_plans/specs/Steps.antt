@@ -10,16 +10,16 @@ use Rattle.keyset_json.specs.Reading as Json
 use Rattle.keyset_json.specs.Writing.{json_of}
 use Rattle.keyset_json.specs.declared.reading.JsonError.{JsonError}
 use Rattle.keyset_json.specs.declared.reading.JsonError.TheVariants as json_errors
-use Rattle.keyset_model.specs.declared.keyset.KeysetFault.{KeysetFault}
-use Rattle.keyset_model.specs.declared.keyset.KeysetFault.TheVariants as keyset_faults
+use Rattle.keyset_model.specs.declared.keyset.KeysetRefusal.{KeysetRefusal}
+use Rattle.keyset_model.specs.declared.keyset.KeysetRefusal.TheVariants as keyset_faults
 use Rattle.keyset_model.specs.declared.reading.ReadError.{ReadError}
 use Rattle.keyset_model.specs.declared.reading.ReadError.TheVariants as errors
 use Rattle.seal_wrap.specs.Unwrapped.{is_wrapped_binary, is_wrapped_json}
 use Rattle.tinkey_cmds.specs.Draws.{Draw}
 use Rattle.tinkey_cmds.specs.Edits.{Edit}
-use Rattle.tinkey_cmds.specs.declared.command.CmdError.{CmdError}
-use Rattle.tinkey_cmds.specs.declared.command.CmdError.TheVariants as given
-use Rattle.tinkey_cmds.specs.declared.command.CmdFault.{CmdFault}
+use Rattle.tinkey_cmds.specs.declared.command.EditError.{EditError}
+use Rattle.tinkey_cmds.specs.declared.command.EditError.TheVariants as given
+use Rattle.tinkey_cmds.specs.declared.command.EditRefusal.{EditRefusal}
 use Rattle.tinkey_session.specs.Serving.{edit_named, no_template, or_refused}
 use Rattle.tinkey_session.specs.declared.reply.Refusal.{Refusal as Why}
 use Rattle.tinkey_session.specs.declared.reply.Refusal.TheVariants as refused
@@ -33,7 +33,7 @@ use Rattle.tinkey_plans.specs.Ends.{World, Ends}
 use Rattle.tinkey_plans.specs.Plan.{Plan, ends, writes, creates, allocates, loads, reads_all, draws, keysets}
 use Rattle.tinkey_words.specs.declared.words.rows.Format.{Format}
 use Rattle.tinkey_words.specs.declared.words.rows.Format.TheVariants as formats
-use Rattle.tinkey_words.specs.Words.{Place, AskedEdit}
+use Rattle.tinkey_words.specs.Words.{KeysetFile, AskedEdit}
 
 -- a keyset of more bytes is too long
 abbrev pub keyset_limit : ℕ
@@ -54,7 +54,7 @@ abbrev pub wire_status : Origin → Begins → (locked : Bool) → (at : ℕ) �
 wire_status from begins locked at =
     if locked then status.ProtoLocked at from else status.BadProto at from begins
 
-abbrev pub fault_status : Origin → (locked : Bool) → KeysetFault → Status
+abbrev pub fault_status : Origin → (locked : Bool) → KeysetRefusal → Status
 fault_status from locked fault =
     if locked then status.KeysetLocked fault from else status.Keyset fault
 
@@ -63,7 +63,7 @@ abbrev pub ends_at : Origin → Begins → (locked : Bool) → (at : ℕ) → Pl
 ends_at from begins locked at =
     if locked then ends (status.ProtoLocked at from) tt else ends (status.BadProto at from begins) tt
 
-abbrev pub ends_faulty : Origin → (locked : Bool) → KeysetFault → Plan
+abbrev pub ends_faulty : Origin → (locked : Bool) → KeysetRefusal → Plan
 ends_faulty from locked fault =
     if locked then ends (status.KeysetLocked fault from) tt else ends (status.Keyset fault) tt
 
@@ -90,7 +90,7 @@ with_keyset from begins locked (Ok keys) next = next keys
 -- ---- JSON
 
 -- the keyset has no key
-abbrev pub has_no_key : KeysetFault → Bool
+abbrev pub has_no_key : KeysetRefusal → Bool
 has_no_key keyset_faults.Empty = true
 has_no_key _ = false
 
@@ -154,7 +154,7 @@ keyset_at from file form next =
     takes_bytes from keyset_limit file (λ bytes. keyset_in (origin_of from file) form bytes next)
 
 -- the keyset that lies at this place, which --in gives
-abbrev pub takes_keyset : Place → (Keys → Plan) → Plan
+abbrev pub takes_keyset : KeysetFile → (Keys → Plan) → Plan
 takes_keyset place next = keyset_at origins.In place.file place.form next
 
 -- the whole input, within this limit
@@ -183,13 +183,13 @@ abbrev pub finds_edit : AskedEdit → (Edit → Plan) → Plan
 finds_edit asked next = or_refused refuses (edit_named asked) next
 
 -- the status of an edit that gives no keyset
-abbrev pub edit_refusal : CmdError → Status
+abbrev pub edit_refusal : EditError → Status
 edit_refusal (given.Refused fault) = status.Refused (refused.Command fault)
 edit_refusal given.EntropyFault = status.EntropyFault
 edit_refusal given.NoMemory = status.NoMemory
 
 -- what was made goes on, or the refusal of the edit is the answer
-abbrev pub with_made : {A : Type 0} → Result A CmdFault → (A → Plan) → Plan
+abbrev pub with_made : {A : Type 0} → Result A EditRefusal → (A → Plan) → Plan
 with_made (Ok value) next = next value
 with_made (Err fault) next = ends (status.Refused (refused.Command fault)) tt
 
@@ -218,7 +218,7 @@ abbrev pub writes_keyset : Format → Keys → (List ℕ → Plan) → Plan
 writes_keyset form keys next = works_out (written_in form keys) (within_limit keyset_limit next)
 
 -- the keyset in its written form becomes a new file, or where none is named, goes to the sink
-abbrev pub puts_keyset : Place → Keys → Plan
+abbrev pub puts_keyset : KeysetFile → Keys → Plan
 puts_keyset place keys = writes_keyset place.form keys (puts place.file)
 
 -- the status of what was done, or why it wasn't

@@ -3,7 +3,7 @@
 use Rattle.std.specs.Prelude.{ℕ, ◌+◌, List, Option, Some, None}
 use Rattle.std.specs.Option.{option_map}
 use Rattle.keyset_model.specs.Keyset.{Keys}
-use Rattle.keyset_model.specs.declared.keyset.KeysetFault.TheVariants as faults
+use Rattle.keyset_model.specs.declared.keyset.KeysetRefusal.TheVariants as faults
 use Rattle.managers.specs.Table.{Table}
 use Rattle.segment_stream.specs.KeysModel.{KeysForStreams}
 use Rattle.segment_stream.specs.Pumping.{Part, sealing, opening_any, resealing}
@@ -49,7 +49,7 @@ abbrev pub loads_stream_keys : Table → Lock → List ℕ → Format → (KeysF
 loads_stream_keys table lock name form next =
     loads_locked table lock name form (λ keys. takes_stream_keys keys next)
 
--- the output of a pass goes to the sink as it comes; or where a new file is named, it is kept aside until all of
+-- the output of a pass goes to the sink as it comes; or where a new file is named, it is kept in a draft until all of
 -- it is there, and becomes that file
 abbrev pub passes_to : (out : Option (List ℕ)) → Part → Plan
 passes_to None part = pumps part

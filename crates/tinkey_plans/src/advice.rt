@@ -4,8 +4,8 @@ ghost use Rattle.std.specs.Prelude.{◌≡◌};
 ghost use Rattle.tinkey_plans.specs.Advice.{advice, edit_advice, keyset_advice, refusal_advice};
 
 use crate::Status;
-use keyset_model::KeysetFault;
-use tinkey_cmds::CmdFault;
+use keyset_model::KeysetRefusal;
+use tinkey_cmds::EditRefusal;
 use tinkey_session::Refusal;
 
 /// The second line of a status that has no other, or nothing.
@@ -49,31 +49,31 @@ pub(crate) fn advice(status: Status) -> &'static str
 
 /// Of a keyset's fault.
 #[tactic(auto, unfolding(crate::specs::Advice::keyset_advice))]
-fn keyset_advice(fault: KeysetFault) -> &'static str
+fn keyset_advice(fault: KeysetRefusal) -> &'static str
     ensures { result.now ≡ keyset_advice fault }
 {
     match fault {
-        KeysetFault::Empty => "tinkey: the input is empty, or it lists no key\n",
-        KeysetFault::TooMany => "tinkey: a keyset has at most 1000 keys\n",
-        KeysetFault::UnknownStatus(_) => {
+        KeysetRefusal::Empty => "tinkey: the input is empty, or it lists no key\n",
+        KeysetRefusal::TooMany => "tinkey: a keyset has at most 1000 keys\n",
+        KeysetRefusal::UnknownStatus(_) => {
             "tinkey: keys count from 0; the keyset is damaged, or made by a later Tink\n"
         }
-        KeysetFault::UnknownPrefix(_) => {
+        KeysetRefusal::UnknownPrefix(_) => {
             "tinkey: keys count from 0; the keyset is damaged, or made by a later Tink\n"
         }
-        KeysetFault::UnknownMaterial(_) => {
+        KeysetRefusal::UnknownMaterial(_) => {
             "tinkey: keys count from 0; the keyset is damaged, or made by a later Tink\n"
         }
-        KeysetFault::MissingKeyData(_) => {
+        KeysetRefusal::MissingKeyData(_) => {
             "tinkey: keys count from 0; only a DESTROYED key may have no key data\n"
         }
-        KeysetFault::NoPrimary => {
+        KeysetRefusal::NoPrimary => {
             "tinkey: the keyset is incomplete: another copy of it may have that key\n"
         }
-        KeysetFault::PrimaryNotEnabled => {
+        KeysetRefusal::PrimaryNotEnabled => {
             "tinkey: no command reads such a keyset: enable the key with the tool that made it\n"
         }
-        KeysetFault::AmbiguousPrimary(_, _) => {
+        KeysetRefusal::AmbiguousPrimary(_, _) => {
             "tinkey: keys count from 0; disable one of them with the tool that made the keyset\n"
         }
     }
@@ -106,29 +106,30 @@ fn refusal_advice(refusal: Refusal) -> &'static str
 
 /// Of an edit that is refused.
 #[tactic(auto, unfolding(crate::specs::Advice::edit_advice))]
-fn edit_advice(fault: CmdFault) -> &'static str
+fn edit_advice(fault: EditRefusal) -> &'static str
     ensures { result.now ≡ edit_advice fault }
 {
     match fault {
-        CmdFault::KeyNotFound => "tinkey: list-keyset shows the ids of the keys\n",
-        CmdFault::KeyIsPrimary => {
+        EditRefusal::KeyNotFound => "tinkey: list-keyset shows the ids of the keys\n",
+        EditRefusal::KeyIsPrimary => {
             "tinkey: make another key the primary first: promote-key, or rotate-keyset\n"
         }
-        CmdFault::KeyNotEnabled => {
+        EditRefusal::KeyNotEnabled => {
             "tinkey: only an ENABLED key can be the primary: enable-key enables a DISABLED one\n"
         }
-        CmdFault::KeyDestroyed => {
+        EditRefusal::KeyDestroyed => {
             "tinkey: its key material is gone, and no command brings it back\n"
         }
-        CmdFault::KeyRefused(_) => "",
-        CmdFault::MixedPrimitive => {
+        EditRefusal::KeyRefused(_) => "",
+        EditRefusal::MixedPrimitive => {
             "tinkey: all keys of a keyset do one kind of work: make another keyset for this one\n"
         }
-        CmdFault::IdsExhausted => {
+        EditRefusal::IdsExhausted => {
             "tinkey: 64 random ids in a row were 0 or in use: check the random device\n"
         }
-        CmdFault::TooManyKeys => "tinkey: a keyset has at most 1000 keys: delete-key removes one\n",
-        CmdFault::AmbiguousPrimary => {
+        EditRefusal::TooManyKeys =>
+            "tinkey: a keyset has at most 1000 keys: delete-key removes one\n",
+        EditRefusal::AmbiguousPrimary => {
             "tinkey: another key has this id: rotate-keyset makes a primary with an id of its own\n"
         }
     }

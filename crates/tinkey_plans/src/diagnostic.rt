@@ -4,7 +4,7 @@ ghost use Rattle.std.specs.Prelude.{◌≡◌, ◌+◌, ◌≤◌, ◌++◌, len
 ghost use Rattle.keyset_json.specs.Members.{name_of};
 ghost use Rattle.tinkey_session.specs.Texts.{line_refusal_text, refusal_text};
 ghost use Rattle.tinkey_plans.specs.Status.{key_text, line_of, behind_line, in_clear_line, text_of, fault_text, Reports, Wrote};
-ghost use Rattle.tinkey_cmds.specs.declared.command.CmdFault.TheVariants as edits;
+ghost use Rattle.tinkey_cmds.specs.declared.command.EditRefusal.TheVariants as edits;
 ghost use Rattle.tinkey_session.specs.declared.reply.Refusal.TheVariants as refused;
 
 use crate::advice::advice;
@@ -14,9 +14,9 @@ use crate::sealer::sealer_line;
 use crate::{Status, help_text};
 use key_msgs::Rule;
 use keyset_json::{Member, Path};
-use keyset_model::KeysetFault;
+use keyset_model::KeysetRefusal;
 use tink_base::{Sink, write_all};
-use tinkey_cmds::CmdFault;
+use tinkey_cmds::EditRefusal;
 use tinkey_session::{LineRefusal, Refusal, ShortText, line_refusal_text, refusal_text};
 use tinkey_words::Topic;
 
@@ -190,21 +190,21 @@ fn member_name(member: Member) -> &'static str
 
 /// Adds the text of a keyset's fault, for which there is room.
 #[tactic(auto, unfolding(crate::specs::Status::fault_text))]
-fn push_fault(line: &mut ShortText, fault: KeysetFault)
+fn push_fault(line: &mut ShortText, fault: KeysetRefusal)
     requires room { length line.old ≤ 16 }
     ensures text { line.new ≡ line.old ++ fault_text fault }
     ensures short { length line.new ≤ 127 }
 {
     match fault {
-        KeysetFault::Empty => line.push("keyset has no key"),
-        KeysetFault::TooMany => line.push("keyset has too many keys"),
-        KeysetFault::UnknownStatus(i) => push_key(line, i, " has an unknown status"),
-        KeysetFault::UnknownPrefix(i) => push_key(line, i, " has an unknown output prefix type"),
-        KeysetFault::UnknownMaterial(i) => push_key(line, i, " has an unknown key material type"),
-        KeysetFault::MissingKeyData(i) => push_key(line, i, " has no key data"),
-        KeysetFault::NoPrimary => line.push("no key has the primary id"),
-        KeysetFault::PrimaryNotEnabled => line.push("the primary key is not enabled"),
-        KeysetFault::AmbiguousPrimary(i, j) => push_keys(line, i, j),
+        KeysetRefusal::Empty => line.push("keyset has no key"),
+        KeysetRefusal::TooMany => line.push("keyset has too many keys"),
+        KeysetRefusal::UnknownStatus(i) => push_key(line, i, " has an unknown status"),
+        KeysetRefusal::UnknownPrefix(i) => push_key(line, i, " has an unknown output prefix type"),
+        KeysetRefusal::UnknownMaterial(i) => push_key(line, i, " has an unknown key material type"),
+        KeysetRefusal::MissingKeyData(i) => push_key(line, i, " has no key data"),
+        KeysetRefusal::NoPrimary => line.push("no key has the primary id"),
+        KeysetRefusal::PrimaryNotEnabled => line.push("the primary key is not enabled"),
+        KeysetRefusal::AmbiguousPrimary(i, j) => push_keys(line, i, j),
     }
 }
 
@@ -225,7 +225,7 @@ fn push_data_key(line: &mut ShortText, rule: Rule)
     ensures short { length line.new ≤ 127 }
 {
     line.push("data ");
-    line.push_bytes(refusal_text(Refusal::Command(CmdFault::KeyRefused(rule))).as_slice());
+    line.push_bytes(refusal_text(Refusal::Command(EditRefusal::KeyRefused(rule))).as_slice());
 }
 
 /// Adds what is reported about the key at this place.

@@ -4,9 +4,9 @@ ghost use Rattle.std.specs.Prelude.{◌≡◌, ◌+◌, ◌≤◌, ◌++◌, len
 ghost use Rattle.tinkey_words.specs.Names.{form_for, option_row, row_of};
 ghost use Rattle.tinkey_plans.specs.Misfits.{dash_text, form_text, misfit_line, misfit_text, told_of};
 
-use tink_base::ASIDE;
+use tink_base::TEMPORARY;
 use tinkey_session::ShortText;
-use tinkey_words::{CommandName, Form, Misfit, OptionName};
+use tinkey_words::{CommandName, Misfit, OptionName, ValueForm};
 
 /// The line that says why a word is at fault.
 #[tactic(auto, unfolding(crate::specs::Misfits::misfit_line))]
@@ -47,12 +47,12 @@ fn push_misfit(line: &mut ShortText, why: Misfit)
             );
         }
         Misfit::BadValue(command, name) => push_form(line, name, " takes ", command),
-        Misfit::Aside(command, name) => {
+        Misfit::Temporary(command, name) => {
             push_told(
                 line,
                 option_word(name),
                 " takes no name that begins as tinkey's own do, ",
-                ASIDE,
+                TEMPORARY,
                 command,
             );
         }
@@ -139,37 +139,37 @@ fn option_word(name: OptionName) -> &'static str
 
 /// Why a dash names no file, and what to name instead.
 #[tactic(auto, unfolding(crate::specs::Misfits::dash_text))]
-fn dash_text(form: Form) -> &'static str
+fn dash_text(form: ValueForm) -> &'static str
     ensures text { result.now ≡ dash_text form }
     ensures short { length result.now ≤ 50 }
 {
     match form {
-        Form::NewFile => ": the replies are on standard output",
+        ValueForm::NewFile => ": the replies are on standard output",
         _ => " for standard input: name /dev/stdin or /dev/fd/3",
     }
 }
 
 /// What a value of this form is.
 #[tactic(auto, unfolding(crate::specs::Misfits::form_text))]
-fn form_text(form: Form) -> &'static str
+fn form_text(form: ValueForm) -> &'static str
     ensures text { result.now ≡ form_text form }
     ensures short { length result.now ≤ 38 }
 {
     match form {
-        Form::Text => "a name",
-        Form::FileName => "the name of a file",
-        Form::Input => "the name of a file, or -",
-        Form::NewFile => "the name of a file",
-        Form::Output => "the name of a file, or -",
-        Form::Number => "a number from 0 to 4294967295",
-        Form::LineCount => "a number from 1 to 100000",
-        Form::RangeLength => "a number from 0 to 16777216",
-        Form::Offset => "a number from 0 to 9223372036854775807",
-        Form::Format => "json or binary",
-        Form::SealedForm => "text, envelope or stream",
-        Form::Command => "a command that uses keys",
-        Form::Datum => "at most 1048576 bytes",
-        Form::Hex => "at most 1048576 bytes in hexadecimal",
-        Form::Flag => "no value",
+        ValueForm::Text => "a name",
+        ValueForm::FileName => "the name of a file",
+        ValueForm::Input => "the name of a file, or -",
+        ValueForm::NewFile => "the name of a file",
+        ValueForm::Output => "the name of a file, or -",
+        ValueForm::Number => "a number from 0 to 4294967295",
+        ValueForm::LineCount => "a number from 1 to 100000",
+        ValueForm::RangeLength => "a number from 0 to 16777216",
+        ValueForm::Offset => "a number from 0 to 9223372036854775807",
+        ValueForm::Format => "json or binary",
+        ValueForm::SealedForm => "text, envelope or stream",
+        ValueForm::Command => "a command that uses keys",
+        ValueForm::Datum => "at most 1048576 bytes",
+        ValueForm::Hex => "at most 1048576 bytes in hexadecimal",
+        ValueForm::Flag => "no value",
     }
 }

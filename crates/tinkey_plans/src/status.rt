@@ -5,15 +5,15 @@ ghost use Rattle.std.specs.Prelude.{◌≡◌};
 use crate::{Begins, Origin, Sealer, Unopened};
 use key_msgs::Rule;
 use keyset_json::Path;
-use keyset_model::KeysetFault;
+use keyset_model::KeysetRefusal;
 use segment_stream::StreamKeysFault;
 use stream_range::RangeFault;
 use tink_base::NoMemory;
-use tinkey_cmds::CmdError;
+use tinkey_cmds::EditError;
 use tinkey_selftest::SelfTestFault;
 use tinkey_session::{Refusal, refusal_in};
 use tinkey_words::Misuse;
-use wrapped_prims::HandleFault;
+use wrapped_prims::HandleError;
 
 /// How a run ends, with the place where it was refused.
 ///
@@ -52,9 +52,9 @@ pub enum Status {
     /// their form.
     WrappedMember(Origin),
     /// The keyset has this fault.
-    Keyset(KeysetFault),
+    Keyset(KeysetRefusal),
     /// The keyset from there has this fault, and its text is an encrypted keyset.
-    KeysetLocked(KeysetFault, Origin),
+    KeysetLocked(KeysetRefusal, Origin),
     /// The keyset has more than 1,048,576 bytes, or a wrapped one more than 4,194,304.
     KeysetTooLong,
     /// The file of the keyset that this option gives is missing.
@@ -159,12 +159,12 @@ impl From<Refusal> for Status {
     }
 }
 
-impl From<HandleFault> for Status {
+impl From<HandleError> for Status {
     ghost use Rattle.tinkey_plans.specs.Handles.{handle_refusal};
 
     ghost from_gives = { λ fault s. s ≡ handle_refusal fault };
 
-    fn from(fault: HandleFault) -> Status {
+    fn from(fault: HandleError) -> Status {
         match refusal_in(fault) {
             Some(why) => Status::Refused(why),
             None => Status::NoMemory,
@@ -186,16 +186,16 @@ impl From<StreamKeysFault> for Status {
     }
 }
 
-impl From<CmdError> for Status {
+impl From<EditError> for Status {
     ghost use Rattle.tinkey_plans.specs.Steps.{edit_refusal};
 
     ghost from_gives = { λ error s. s ≡ edit_refusal error };
 
-    fn from(error: CmdError) -> Status {
+    fn from(error: EditError) -> Status {
         match error {
-            CmdError::Refused(fault) => Status::Refused(Refusal::Command(fault)),
-            CmdError::EntropyFault => Status::EntropyFault,
-            CmdError::NoMemory => Status::NoMemory,
+            EditError::Refused(fault) => Status::Refused(Refusal::Command(fault)),
+            EditError::EntropyFault => Status::EntropyFault,
+            EditError::NoMemory => Status::NoMemory,
         }
     }
 }

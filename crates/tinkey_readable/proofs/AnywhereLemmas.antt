@@ -40,7 +40,7 @@ use Rattle.tinkey_plans.proofs.EnvelopeLemmas.{row_known}
 use Rattle.tinkey_plans.specs.Envelopes.{envelope_limit, envelopes}
 use Rattle.tinkey_plans.specs.Laws.{FitKeysetsAnswer}
 use Rattle.tinkey_plans.specs.Plan.{Answer, Plan, Told, answer, writes}
-use Rattle.tinkey_plans.specs.Ranging.{opens_stretch}
+use Rattle.tinkey_plans.specs.Ranging.{opens_file_range}
 use Rattle.tinkey_plans.specs.Steps.{input_limit, origin_of, puts, puts_keyset, sealed_limit}
 use Rattle.tinkey_plans.specs.Streaming.{begins_file, loads_stream_keys, opens_stream, seals_stream}
 use Rattle.tinkey_plans.specs.Handles.{handles, unless_unfit}
@@ -55,7 +55,7 @@ use Rattle.tinkey_readable.proofs.LineRunLemmas.{Answers, MakesSeal, computed_ga
 use Rattle.tinkey_readable.proofs.LockLemmas.{finished_under, given_is_keyset as sealed_is_keyset, started_under}
 use Rattle.tinkey_readable.proofs.LyingLemmas.{given_is_keyset, same_lying, taken_behind}
 use Rattle.tinkey_readable.proofs.PutLemmas.{envelope_worked, made_is, made_put, made_written}
-use Rattle.tinkey_readable.proofs.RangeRunLemmas.{puts_reached, range_past, range_within, stretch_reached}
+use Rattle.tinkey_readable.proofs.RangeRunLemmas.{puts_reached, range_past, range_within, file_range_reached}
 use Rattle.tinkey_readable.proofs.ReachLemmas.{IsDoneAnswer, behind, bytes_put, load_reached, put_done}
 use Rattle.tinkey_plans.specs.Sealers.{envelope_sealer_of}
 use Rattle.tinkey_plans.specs.declared.sealer.Unopened.TheVariants as unopened
@@ -309,14 +309,14 @@ ranges_made slice fit other keys r ad stream plain m serves has only =
     let with' = with_primary keys p.0 in
     record {
       within = λ t lock name range out lie free within.
-          let reached' = served_reached other keys p.0 (λ k. opens_stretch k ad range (puts out)) t lock name serves p.1 lie.keyset in
+          let reached' = served_reached other keys p.0 (λ k. opens_file_range k ad range (puts out)) t lock name serves p.1 lie.keyset in
           let part : List ℕ = take range.size (drop range.from plain) in
-          let e = reached' ∙ stretch_reached with' ad stream range out t (Ok part) lie.sealed (range_within slice keys ad stream plain range.from range.size opens within) in
+          let e = reached' ∙ file_range_reached with' ad stream range out t (Ok part) lie.sealed (range_within slice keys ad stream plain range.from range.size opens within) in
           let done = puts_reached out part t free in
           (ap (λ (a : Answer). a.status) e ∙ done, ap (λ (a : Answer). bytes_at out a.files a.output) e ∙ bytes_put out part t done);
       past = λ t lock name range out lie behind'.
-          let reached' = served_reached other keys p.0 (λ k. opens_stretch k ad range (puts out)) t lock name serves p.1 lie.keyset in
-          reached' ∙ stretch_reached with' ad stream range out t (Err past_end) lie.sealed (range_past slice keys ad stream plain range.from range.size opens behind');
+          let reached' = served_reached other keys p.0 (λ k. opens_file_range k ad range (puts out)) t lock name serves p.1 lie.keyset in
+          reached' ∙ file_range_reached with' ad stream range out t (Err past_end) lie.sealed (range_past slice keys ad stream plain range.from range.size opens behind');
     }
 
 pub opens_range_anywhere : StreamBack → RangeIsSlice → ReadKeysFit → OpensRangeAnywhere

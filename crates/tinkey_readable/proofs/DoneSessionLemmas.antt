@@ -10,7 +10,7 @@ use Rattle.tinkey_plans.specs.Commands.{command_plan}
 use Rattle.tinkey_plans.specs.Plan.{Answer, Plan, Told, answer, exchanges, look_answer, refused, talk_answer}
 use Rattle.tinkey_plans.specs.Session.{finds_free, holds_session, saves, saves_as}
 use Rattle.tinkey_words.specs.declared.words.rows.Format.{Format}
-use Rattle.tinkey_words.specs.Words.{Lock, Place, session}
+use Rattle.tinkey_words.specs.Words.{Lock, KeysetFile, session}
 use Rattle.tinkey_plans.specs.Locks.{takes_under}
 use Rattle.tinkey_readable.specs.DoneWhere.{IsSavedWithin, SessionGoes, SessionsDone}
 use Rattle.tinkey_readable.specs.Runs.{IsFree}
@@ -43,16 +43,16 @@ save_reached table master (Some name) form keys told fits free = put_comes table
 -- ---- the lines
 
 -- the answer by how the session stands at the end of its input
-abbrev pub stands : Table → Option Keys → Keys → Place → Told → Stop → Answer
+abbrev pub stands : Table → Option Keys → Keys → KeysetFile → Told → Stop → Answer
 stands table master keys out told stop =
     let x = talk table keys told.input told.random true in
     talk_answer stop x told (answer (saves table master out x.keys) (record told { input = []; random = x.random }))
 
-record Held (table : Table) (master : Option Keys) (keys : Keys) (out : Place) (told : Told) : Type 0 where
+record Held (table : Table) (master : Option Keys) (keys : Keys) (out : KeysetFile) (told : Told) : Type 0 where
   goes_on : (talk table keys told.input told.random true).stop ≡ goes
   saved : IsSavedWithin table master out.file out.form (talk table keys told.input told.random true).keys (talk table keys told.input told.random true).random
 
-held : (table : Table) (master : Option Keys) (keys : Keys) (out : Place) (told : Told) → IsDoneAnswer (answer (exchanges (talk table keys) (saves table master out)) told) → Held table master keys out told
+held : (table : Table) (master : Option Keys) (keys : Keys) (out : KeysetFile) (told : Told) → IsDoneAnswer (answer (exchanges (talk table keys) (saves table master out)) told) → Held table master keys out told
 held table master keys out told done = by x.stop refl done
   where
     x : Talk
@@ -64,12 +64,12 @@ held table master keys out told done = by x.stop refl done
     by (passes long_line) is done = absurd (cc)
     by (passes many_lines) is done = absurd (cc)
 
-abbrev session_behind : Table → List ℕ → Format → Place → Option Keys → Plan
+abbrev session_behind : Table → List ℕ → Format → KeysetFile → Option Keys → Plan
 session_behind table name form out master = takes_under origins.Keyset table master (record { file = Some name; form = form }) (holds_session table master out)
 
-pub session_is : (table : Table) (lock : Lock) (name : List ℕ) (form : Format) (out : Place) (told : Told) → IsDoneAnswer (answer (command_plan table (session lock name form out)) told) → SessionGoes table lock name form out told
+pub session_is : (table : Table) (lock : Lock) (name : List ℕ) (form : Format) (out : KeysetFile) (told : Told) → IsDoneAnswer (answer (command_plan table (session lock name form out)) told) → SessionGoes table lock name form out told
 session_is table lock name form out told is =
-    let place : Place = record { file = Some name; form = form } in
+    let place : KeysetFile = record { file = Some name; form = form } in
     let o = lock_there table lock (session_behind table name form out) told is in
     let master = o.0 in
     let opened = lock_reached table lock master (session_behind table name form out) told o.1 in
@@ -90,14 +90,14 @@ session_is table lock name form out told is =
       saved = h.saved;
     }
 
-pub session_answers : (table : Table) (lock : Lock) (name : List ℕ) (form : Format) (out : Place) (told : Told) (x : SessionGoes table lock name form out told) → answer (command_plan table (session lock name form out)) told ≡ stands table x.master x.keys out told goes
+pub session_answers : (table : Table) (lock : Lock) (name : List ℕ) (form : Format) (out : KeysetFile) (told : Told) (x : SessionGoes table lock name form out told) → answer (command_plan table (session lock name form out)) told ≡ stands table x.master x.keys out told goes
 session_answers table lock name form out told x =
     lock_reached table lock x.master (session_behind table name form out) told x.opens
     ∙ takes_reached origins.Keyset table x.master (record { file = Some name; form = form }) x.keys (holds_session table x.master out) told x.lies
     ∙ look_reached out.file (λ free. exchanges (talk table x.keys) (saves table x.master out)) told x.free
     ∙ ap (stands table x.master x.keys out told) x.goes_on
 
-session_comes : (table : Table) (lock : Lock) (name : List ℕ) (form : Format) (out : Place) (told : Told) → SessionGoes table lock name form out told → IsDoneAnswer (answer (command_plan table (session lock name form out)) told)
+session_comes : (table : Table) (lock : Lock) (name : List ℕ) (form : Format) (out : KeysetFile) (told : Told) → SessionGoes table lock name form out told → IsDoneAnswer (answer (command_plan table (session lock name form out)) told)
 session_comes table lock name form out told x =
     let t = talk table x.keys told.input told.random true in
     ap (λ (a : Answer). a.status) (session_answers table lock name form out told x)

@@ -27,7 +27,7 @@ use Rattle.tinkey_plans.specs.declared.sealer.Sealer.{Sealer}
 use Rattle.tinkey_plans.specs.declared.sealer.Unopened.{Unopened}
 use Rattle.tinkey_plans.specs.declared.sealer.Unopened.TheVariants as unopened
 use Rattle.tinkey_plans.specs.Using.{as_drawn, dseals_plain, hex_line, limit_for, puts_output, seals_plain, shows, with_derived, with_opened, with_verified, works}
-use Rattle.tinkey_words.specs.Words.{AskedEdit, AskedWork, Lock, NewLock, Output, Place, convert_keyset, create_keyset, edit_keyset, use_keyset, to_seal, to_open, to_dseal, to_dopen, to_reseal, to_dreseal, to_tag, to_verify, to_derive, primitive_for}
+use Rattle.tinkey_words.specs.Words.{AskedEdit, AskedWork, Lock, NewLock, Output, KeysetFile, convert_keyset, create_keyset, edit_keyset, use_keyset, to_seal, to_open, to_dseal, to_dopen, to_reseal, to_dreseal, to_tag, to_verify, to_derive, primitive_for}
 use Rattle.tinkey_readable.specs.DoneWhere.{ConvertGoes, CreateGoes, EditGoes, EditsDone, HasIv, WorkGoes, WorkIsDone, WorksDone}
 use Rattle.tinkey_readable.specs.Lying.{FitsThere}
 use Rattle.tinkey_readable.specs.Runs.{IsFree}
@@ -46,10 +46,10 @@ makes_reached give next told drawn new gave is =
     ap (λ o. draw_answer o (refused told status.EntropyFault) (λ (x : Drawn Keys). answer (with_made x.answer next) (record told { random = x.left }))) gave
     ∙ ap (λ r. answer (with_made r next) (record told { random = drawn.left })) is
 
-abbrev edits_behind : Table → (in' out : Place) → Edit → Option Keys → Plan
+abbrev edits_behind : Table → (in' out : KeysetFile) → Edit → Option Keys → Plan
 edits_behind table in' out edit master = takes_under origins.In table master in' (λ keys. makes_keyset (step keys edit) (puts_under table master out))
 
-pub edit_goes : (table : Table) (lock : Lock) (asked : AskedEdit) (in' out : Place) (told : Told) → IsDoneAnswer (answer (command_plan table (edit_keyset lock asked in' out)) told) → EditGoes table lock asked in' out told
+pub edit_goes : (table : Table) (lock : Lock) (asked : AskedEdit) (in' out : KeysetFile) (told : Told) → IsDoneAnswer (answer (command_plan table (edit_keyset lock asked in' out)) told) → EditGoes table lock asked in' out told
 edit_goes table lock asked in' out told done =
     let f = found_edit asked (λ e. opens_lock table lock (edits_behind table in' out e)) told done in
     let d1 : IsDoneAnswer (answer (opens_lock table lock (edits_behind table in' out f.edit)) told) = ap (λ (a : Answer). a.status) (sym f.goes_on) ∙ done in
@@ -75,7 +75,7 @@ edit_goes table lock asked in' out told done =
     }
 
 -- the keyset that it makes is put
-pub edit_answers : (table : Table) (lock : Lock) (asked : AskedEdit) (in' out : Place) (told : Told) (x : EditGoes table lock asked in' out told)
+pub edit_answers : (table : Table) (lock : Lock) (asked : AskedEdit) (in' out : KeysetFile) (told : Told) (x : EditGoes table lock asked in' out told)
     → answer (command_plan table (edit_keyset lock asked in' out)) told ≡ answer (puts_under table x.master out x.new) (record (behind in'.file told) { random = x.accepted.stepped.left })
 edit_answers table lock asked in' out told x =
     let a = x.accepted in
@@ -84,16 +84,16 @@ edit_answers table lock asked in' out told x =
     let t = takes_reached origins.In table x.master in' x.old (λ keys. makes_keyset (step keys a.edit) (puts_under table x.master out)) told x.lies in
     f ∙ o ∙ t ∙ makes_reached (step x.old a.edit) (puts_under table x.master out) (behind in'.file told) a.stepped x.new (ap (step x.old a.edit) (behind_random in'.file told) ∙ a.steps) a.accepted
 
-edit_done : (table : Table) (lock : Lock) (asked : AskedEdit) (in' out : Place) (told : Told) → EditGoes table lock asked in' out told → IsDoneAnswer (answer (command_plan table (edit_keyset lock asked in' out)) told)
+edit_done : (table : Table) (lock : Lock) (asked : AskedEdit) (in' out : KeysetFile) (told : Told) → EditGoes table lock asked in' out told → IsDoneAnswer (answer (command_plan table (edit_keyset lock asked in' out)) told)
 edit_done table lock asked in' out told x =
     ap (λ (y : Answer). y.status) (edit_answers table lock asked in' out told x)
     ∙ put_comes table x.master out x.new (record (behind in'.file told) { random = x.accepted.stepped.left }) x.fits (subst (IsFree out.file) (sym (behind_files in'.file told)) x.free)
 
 -- the first keyset
-abbrev creates_behind : Table → Place → Row → Option Keys → Plan
+abbrev creates_behind : Table → KeysetFile → Row → Option Keys → Plan
 creates_behind table out row master = makes_keyset (first row) (puts_under table master out)
 
-pub create_goes : (table : Table) (lock : Lock) (template : List ℕ) (out : Place) (told : Told) → IsDoneAnswer (answer (command_plan table (create_keyset lock template out)) told) → CreateGoes table lock template out told
+pub create_goes : (table : Table) (lock : Lock) (template : List ℕ) (out : KeysetFile) (told : Told) → IsDoneAnswer (answer (command_plan table (create_keyset lock template out)) told) → CreateGoes table lock template out told
 create_goes table lock template out told done =
     let f = found_row (row_named template) template (λ row. opens_lock table lock (creates_behind table out row)) told done in
     let d1 : IsDoneAnswer (answer (opens_lock table lock (creates_behind table out f.0)) told) = ap (λ (a : Answer). a.status) (sym f.2) ∙ done in
@@ -110,7 +110,7 @@ create_goes table lock template out told done =
       free = put.1;
     }
 
-pub create_answers : (table : Table) (lock : Lock) (template : List ℕ) (out : Place) (told : Told) (x : CreateGoes table lock template out told)
+pub create_answers : (table : Table) (lock : Lock) (template : List ℕ) (out : KeysetFile) (told : Told) (x : CreateGoes table lock template out told)
     → answer (command_plan table (create_keyset lock template out)) told ≡ answer (puts_under table x.master out x.new) (record told { random = x.created.stepped.left })
 create_answers table lock template out told x =
     let c = x.created in
@@ -118,16 +118,16 @@ create_answers table lock template out told x =
     ∙ lock_reached table lock x.master (creates_behind table out c.row) told x.opens
     ∙ makes_reached (first c.row) (puts_under table x.master out) told c.stepped x.new c.steps c.accepted
 
-create_done : (table : Table) (lock : Lock) (template : List ℕ) (out : Place) (told : Told) → CreateGoes table lock template out told → IsDoneAnswer (answer (command_plan table (create_keyset lock template out)) told)
+create_done : (table : Table) (lock : Lock) (template : List ℕ) (out : KeysetFile) (told : Told) → CreateGoes table lock template out told → IsDoneAnswer (answer (command_plan table (create_keyset lock template out)) told)
 create_done table lock template out told x =
     ap (λ (a : Answer). a.status) (create_answers table lock template out told x)
     ∙ put_comes table x.master out x.new (record told { random = x.created.stepped.left }) x.fits x.free
 
 -- another form or another master
-abbrev converts_behind : Table → (in' out : Place) → (taken put : Option Keys) → Plan
+abbrev converts_behind : Table → (in' out : KeysetFile) → (taken put : Option Keys) → Plan
 converts_behind table in' out taken put = takes_under origins.In table taken in' (puts_under table put out)
 
-pub convert_goes : (table : Table) (lock : Lock) (new : NewLock) (in' out : Place) (told : Told) → IsDoneAnswer (answer (command_plan table (convert_keyset lock new in' out)) told) → ConvertGoes table lock new in' out told
+pub convert_goes : (table : Table) (lock : Lock) (new : NewLock) (in' out : KeysetFile) (told : Told) → IsDoneAnswer (answer (command_plan table (convert_keyset lock new in' out)) told) → ConvertGoes table lock new in' out told
 convert_goes table lock new in' out told done =
     let relocks : Option Keys → Plan = λ taken. opens_new_lock table new taken (converts_behind table in' out taken) in
     let o = lock_there table lock relocks told done in
@@ -150,14 +150,14 @@ convert_goes table lock new in' out told done =
       free = subst (IsFree out.file) (behind_files in'.file told) put.1;
     }
 
-pub convert_answers : (table : Table) (lock : Lock) (new : NewLock) (in' out : Place) (told : Told) (x : ConvertGoes table lock new in' out told)
+pub convert_answers : (table : Table) (lock : Lock) (new : NewLock) (in' out : KeysetFile) (told : Told) (x : ConvertGoes table lock new in' out told)
     → answer (command_plan table (convert_keyset lock new in' out)) told ≡ answer (puts_under table x.put out x.keys) (behind in'.file told)
 convert_answers table lock new in' out told x =
     lock_reached table lock x.taken (λ taken. opens_new_lock table new taken (converts_behind table in' out taken)) told x.opens
     ∙ new_lock_reached table new x.taken x.put (converts_behind table in' out x.taken) told x.opens_new
     ∙ takes_reached origins.In table x.taken in' x.keys (puts_under table x.put out) told x.lies
 
-convert_done : (table : Table) (lock : Lock) (new : NewLock) (in' out : Place) (told : Told) → ConvertGoes table lock new in' out told → IsDoneAnswer (answer (command_plan table (convert_keyset lock new in' out)) told)
+convert_done : (table : Table) (lock : Lock) (new : NewLock) (in' out : KeysetFile) (told : Told) → ConvertGoes table lock new in' out told → IsDoneAnswer (answer (command_plan table (convert_keyset lock new in' out)) told)
 convert_done table lock new in' out told x =
     ap (λ (a : Answer). a.status) (convert_answers table lock new in' out told x)
     ∙ put_comes table x.put out x.keys (behind in'.file told) (subst (FitsThere table x.put out.form x.keys) (sym (behind_random in'.file told)) x.fits) (subst (IsFree out.file) (sym (behind_files in'.file told)) x.free)
@@ -250,7 +250,7 @@ works_done answers seals table lock name form work out told = (goes, done)
     left : Told
     left = record told { input = [] }
 
-    place : Place
+    place : KeysetFile
     place = record { file = Some name; form = form }
 
     goes : IsDoneAnswer a → WorkIsDone table lock name form work out told

@@ -29,7 +29,7 @@ use Rattle.tinkey_session.specs.Talks as talks
 use Rattle.tinkey_session.specs.Texts.{reply_text}
 use Rattle.tinkey_session.specs.declared.talk.TalkFault.{TalkFault}
 use Rattle.tinkey_session.specs.declared.talk.TalkFault.TheVariants as talk_faults
-use Rattle.tinkey_cmds.specs.declared.command.CmdFault.{CmdFault}
+use Rattle.tinkey_cmds.specs.declared.command.EditRefusal.{EditRefusal}
 use Rattle.wrapped_prims.specs.Fitness.{Unfit, unfit}
 use Rattle.wrapped_prims.specs.Laws.{IsKeyset}
 use Rattle.tinkey_plans.specs.Origins.{begins_of}
@@ -51,7 +51,7 @@ use Rattle.tinkey_plans.specs.Wrapping.{is_keyset, keyset_sealer, makes_wrapped,
 use Rattle.tinkey_plans.specs.Handles.{handles, unless_unfit}
 use Rattle.tinkey_plans.specs.Locks.{keyset_under, limit_under, takes_under}
 use Rattle.tinkey_plans.proofs.FaultLemmas.{went, Went, of_fault, of_limit}
-use Rattle.tinkey_words.specs.Words.{Lock, Master, Place}
+use Rattle.tinkey_words.specs.Words.{Lock, Master, KeysetFile}
 use Rattle.tinkey_readable.specs.Lying.{GivesKeyset, MasterThere}
 use Rattle.tinkey_readable.proofs.LyingLemmas.{given_is_keyset}
 use Rattle.tinkey_readable.specs.Readable.{AreReadable, HasReplies, SessionsAreReadable, turns_of}
@@ -264,7 +264,7 @@ within_quiet limit next bytes old s new later ended = by (nat_le (length bytes) 
     by true run = later run
     by false (is, same) = (λ h. absurd (cc), ap (λ (w : World). w.sink) same)
 
-made_quiet : (given : Result (List ℕ) CmdFault) (name : List ℕ) (old : World) (s : Status) (new : World) → Ends (with_made given (within_limit wrapped_limit (makes_file name))) old s new → Quiet old s new
+made_quiet : (given : Result (List ℕ) EditRefusal) (name : List ℕ) (old : World) (s : Status) (new : World) → Ends (with_made given (within_limit wrapped_limit (makes_file name))) old s new → Quiet old s new
 made_quiet (Ok text) name old s new run = within_quiet wrapped_limit (makes_file name) text old s new (file_quiet name text old s new) run
 made_quiet (Err fault) name old s new (is, same) = (λ h. absurd (cc), ap (λ (w : World). w.sink) same)
 
@@ -297,7 +297,7 @@ limit_other long_line e = cc
 limit_other many_lines e = cc
 
 -- a session that came to its end
-session_done : TurnsAreReadable → TalkIsTurns → (table : Table) (out : Place) (keys last : Keys) (told : Told) (old mid : World) (s : Status) (new : World) → IsKeyset keys → Tells old told
+session_done : TurnsAreReadable → TalkIsTurns → (table : Table) (out : KeysetFile) (keys last : Keys) (told : Told) (old mid : World) (s : Status) (new : World) → IsKeyset keys → Tells old told
     → Went (talk table keys) last (sides_of old) (sides_of mid) → (s ≢ status.WriteFault) × (mid.sink ≡ new.sink) → HasReplies table keys told old s new
 session_done readable law table out keys last told old mid s new is tells w quiet =
     let input = split mid.source.left old.source.left told.input w.taken tells.input w.has.gave.left in
@@ -340,13 +340,13 @@ session_left readable law table keys told old s new fault is tells ended run = b
         let random = split new.entropy.left old.entropy.left told.random (drawn ++ part) tells.random drew.left in
         some_lines taken (more ++ input.0) drawn (part ++ random.0) (input.2 ∙ append_assoc taken more input.0) (random.2 ∙ append_assoc drawn part random.0) false (λ h. absurd (cc)) (λ h. took) (λ h. absurd (cc))
 
-talk_ends : TurnsAreReadable → TalkIsTurns → (table : Table) (master : Option Keys) (out : Place) (keys : Keys) (told : Told) (old : World) (s : Status) (new : World) → IsKeyset keys → Tells old told → Ends (exchanges (talk table keys) (saves table master out)) old s new → HasReplies table keys told old s new
+talk_ends : TurnsAreReadable → TalkIsTurns → (table : Table) (master : Option Keys) (out : KeysetFile) (keys : Keys) (told : Told) (old : World) (s : Status) (new : World) → IsKeyset keys → Tells old told → Ends (exchanges (talk table keys) (saves table master out)) old s new → HasReplies table keys told old s new
 talk_ends readable law table master out keys told old s new is tells (exchanged last mid run kept steady later) =
     session_done readable law table out keys last told old mid s new is tells (went (talk table keys) last (sides_of old) (sides_of mid) run) (saved table master out.file out.form last mid s new later)
 talk_ends readable law table master out keys told old s new is tells (exchange_ended fault ended run kept steady) = session_left readable law table keys told old s new fault is tells ended run
 
 -- behind a name that was looked up
-session_ends : TurnsAreReadable → TalkIsTurns → (table : Table) (master : Option Keys) (out : Place) (keys : Keys) (told : Told) (old : World) (s : Status) (new : World) → IsKeyset keys → Tells old told → Ends (holds_session table master out keys) old s new → HasReplies table keys told old s new
+session_ends : TurnsAreReadable → TalkIsTurns → (table : Table) (master : Option Keys) (out : KeysetFile) (keys : Keys) (told : Told) (old : World) (s : Status) (new : World) → IsKeyset keys → Tells old told → Ends (holds_session table master out keys) old s new → HasReplies table keys told old s new
 session_ends readable law table master out keys told old s new is tells run = by out.file run
   where
     by : (file : Option (List ℕ)) → Ends (finds_free file (λ free. exchanges (talk table keys) (saves table master out))) old s new → HasReplies table keys told old s new
@@ -383,7 +383,7 @@ starved_replies table keys told old s new is same = none_replied table keys told
 abbrev none_written : (table : Table) (keys : Keys) (told : Told) (old : World) (s : Status) (new : World) → s ≢ status.Done → s ≢ status.WriteFault → old.sink ≡ new.sink → HasReplies table keys told old s new
 none_written table keys told old s new undone other same = none_replied table keys told old s new undone other (took_same old.sink new.sink same)
 
-text_ends : TurnsAreReadable → TalkIsTurns → ReadKeysFit → (table : Table) (master : Option Keys) (name bytes : List ℕ) (form : Format) (out : Place) (keys : Keys) (told : Told) (old : World) (s : Status) (new : World) → Tells old told → map.get told.files name ≡ Some bytes → GivesKeyset table master form bytes keys
+text_ends : TurnsAreReadable → TalkIsTurns → ReadKeysFit → (table : Table) (master : Option Keys) (name bytes : List ℕ) (form : Format) (out : KeysetFile) (keys : Keys) (told : Told) (old : World) (s : Status) (new : World) → Tells old told → map.get told.files name ≡ Some bytes → GivesKeyset table master form bytes keys
     → Ends (takes_under origins.Keyset table master (record { file = Some name; form = form }) (holds_session table master out)) old s new → HasReplies table keys told old s new
 text_ends readable law fit table master name bytes form out keys told old s new tells there gives (loaded found store kept stood given within holds run) =
     let same : bytes ≡ found = same_Some _ _ (sym there ∙ file_told old.store told.files name found tells.files holds) in
@@ -412,7 +412,7 @@ text_ends readable law fit table master name bytes form out keys told old s new 
 text_ends readable law fit table master name bytes form out keys told old s new tells there gives (load_starved is only kept stood given) = starved_replies table keys told old s new is only.sink
 
 -- behind a lock
-lock_ends : TurnsAreReadable → TalkIsTurns → ReadKeysFit → (table : Table) (lock : Master) (of_lock : List ℕ) (over : Keys) (name bytes : List ℕ) (form : Format) (out : Place) (keys : Keys) (told : Told) (old : World) (s : Status) (new : World)
+lock_ends : TurnsAreReadable → TalkIsTurns → ReadKeysFit → (table : Table) (lock : Master) (of_lock : List ℕ) (over : Keys) (name bytes : List ℕ) (form : Format) (out : KeysetFile) (keys : Keys) (told : Told) (old : World) (s : Status) (new : World)
     → Tells old told → map.get told.files lock.file ≡ Some of_lock → read_in lock.form of_lock ≡ Some over → map.get told.files name ≡ Some bytes → GivesKeyset table (Some over) form bytes keys
     → Ends (session_plan table (Some lock) name form out) old s new → HasReplies table keys told old s new
 lock_ends readable law fit table lock of_lock over name bytes form out keys told old s new tells lies read there gives (loaded found store kept stood given within holds run) =
@@ -449,7 +449,7 @@ lock_ends readable law fit table lock of_lock over name bytes form out keys told
 lock_ends readable law fit table lock of_lock over name bytes form out keys told old s new tells lies read there gives (load_failed is only kept rose given) = none_written table keys told old s new (λ h. absurd (cc)) (λ h. absurd (cc)) only.sink
 lock_ends readable law fit table lock of_lock over name bytes form out keys told old s new tells lies read there gives (load_starved is only kept stood given) = starved_replies table keys told old s new is only.sink
 
-plan_ends : TurnsAreReadable → TalkIsTurns → ReadKeysFit → (table : Table) (lock : Lock) (name : List ℕ) (form : Format) (out : Place) (keys : Keys) (told : Told) (old : World) (s : Status) (new : World) → Tells old told → (bytes : List ℕ) → map.get told.files name ≡ Some bytes → (master : Option Keys) → MasterThere lock told master → GivesKeyset table master form bytes keys
+plan_ends : TurnsAreReadable → TalkIsTurns → ReadKeysFit → (table : Table) (lock : Lock) (name : List ℕ) (form : Format) (out : KeysetFile) (keys : Keys) (told : Told) (old : World) (s : Status) (new : World) → Tells old told → (bytes : List ℕ) → map.get told.files name ≡ Some bytes → (master : Option Keys) → MasterThere lock told master → GivesKeyset table master form bytes keys
     → Ends (session_plan table lock name form out) old s new → HasReplies table keys told old s new
 plan_ends readable law fit table None name form out keys told old s new tells bytes there None read gives run = text_ends readable law fit table None name bytes form out keys told old s new tells there gives run
 plan_ends readable law fit table None name form out keys told old s new tells bytes there (Some over) read gives run = absurd read

@@ -85,9 +85,9 @@ stays (draws kind give next) old s new name bytes (draw_failed is only out) has 
 stays (draws kind give next) old s new name bytes (draw_starved parts is only drawn drew stood none) has = same_has _ _ name bytes only.store has
 stays (pumps part) old s new name bytes e has = same_has _ _ name bytes e.only.store has
 stays (collects part next) old s new name bytes (collected all source store gave stood kept quiet given end none run) has = stays (next (part.output all true)) (record old { source = source; store = store }) s new name bytes run (kept_has _ _ name bytes kept has)
-stays (collects part next) old s new name bytes (collect_refused taken ended refusal is aside source store end decided lasting) has = kept_has _ _ name bytes aside.kept has
-stays (collects part next) old s new name bytes (collect_unread taken is aside rose store none) has = kept_has _ _ name bytes aside.kept has
-stays (collects part next) old s new name bytes (collect_unkept taken ended is aside source rose some) has = kept_has _ _ name bytes aside.kept has
+stays (collects part next) old s new name bytes (collect_refused taken ended refusal is kept_draft source store end decided lasting) has = kept_has _ _ name bytes kept_draft.kept has
+stays (collects part next) old s new name bytes (collect_unread taken is kept_draft rose store none) has = kept_has _ _ name bytes kept_draft.kept has
+stays (collects part next) old s new name bytes (collect_unkept taken ended is kept_draft source rose some) has = kept_has _ _ name bytes kept_draft.kept has
 stays (exchanges exchange next) old s new name bytes (exchanged keys mid talk store steady run) has = stays (next keys) mid s new name bytes run (same_has _ _ name bytes store has)
 stays (exchanges exchange next) old s new name bytes (exchange_ended fault is talk store steady) has = same_has _ _ name bytes store has
 

@@ -44,14 +44,14 @@ use Rattle.tinkey_readable.proofs.RunLemmas.{each_of, hands_within, template_row
 use Rattle.tinkey_readable.specs.KeptRuns.{CommandIdsStayDistinct, CreatedIdsAreDistinct, CreatedUnderLock, CreatesFirst, CreatesThis, DataStaysByCommands, Event, EventDraws, GivenBackByEnable, GivenBackUnderLock, HaveLed, HasLed, IsPut, KeptByCommands, KeptByItsIdAlone, HavePassed, OfAsked, OfEvent, OfEvents, OfLocked, Passes, PassesOn, PassesUnder, PassesWrapped, StaysIn, TookPlace, WrapsFirst, passed_by, passed_on, passed_wrapped}
 use Rattle.tinkey_readable.specs.Runs.{AreLocked, CreatesUnder, Does, DrawsBytes, GoesLocked, Handing, Hands, HandsOn, HandsUnder, HoldsBytes, ReadIsStored, Run, RunStep, Wraps, Written, bytes_at, keyset_of}
 use Rattle.tinkey_words.specs.declared.words.rows.Format.{Format}
-use Rattle.tinkey_words.specs.Words.{Asked, AskedEdit, Lock, Place, create_keyset, edit_keyset, list_keyset, key_of, convert_keyset, list_key_templates, use_keyset, use_envelope, seal_stream, open_stream, reseal_stream, open_range, self_test, session, help, version}
+use Rattle.tinkey_words.specs.Words.{Asked, AskedEdit, Lock, KeysetFile, create_keyset, edit_keyset, list_keyset, key_of, convert_keyset, list_key_templates, use_keyset, use_envelope, seal_stream, open_stream, reseal_stream, open_range, self_test, session, help, version}
 
 -- ---- one run
 
 -- what the edit of a run leaves has this, and what its session does
 record EachDone (P : Keys → Type 0) (table : Table) (told : Told) (old : Keys) (asked : Asked) : Type 0 where
-  by_edit : (lock : Lock) (edit : AskedEdit) (in' out : Place) → asked ≡ edit_keyset lock edit in' out → (e : Edit) → Follows edit e → (s : Stepped) → step old e told.random ≡ Some s → P (kept old s.answer)
-  by_session : (lock : Lock) (name : List ℕ) (form : Format) (out : Place) → asked ≡ session lock name form out → (m : Remains) → remains table old (asked_in told.input) told.random ≡ Some m → P m.keys
+  by_edit : (lock : Lock) (edit : AskedEdit) (in' out : KeysetFile) → asked ≡ edit_keyset lock edit in' out → (e : Edit) → Follows edit e → (s : Stepped) → step old e told.random ≡ Some s → P (kept old s.answer)
+  by_session : (lock : Lock) (name : List ℕ) (form : Format) (out : KeysetFile) → asked ≡ session lock name form out → (m : Remains) → remains table old (asked_in told.input) told.random ≡ Some m → P m.keys
 
 -- any other run that hands a keyset on leaves it
 run_keeps : (P : Keys → Type 0) (table : Table) (told : Told) (asked : Asked) (old new : Keys) → P old → EachDone P table told old asked → Does table told old new asked → P new
@@ -293,7 +293,7 @@ alone_is_there r keys key =
 
 -- ---- a key that was disabled
 
-enabled_by : (r : Record) (prefix : List ℕ) → prefix_of r ≡ Some prefix → (told : Told) (old new : Keys) (lock : Lock) (in' out : Place) → HasDistinctIds old → AllByRecursion HasWordId old.records → HasData r old
+enabled_by : (r : Record) (prefix : List ℕ) → prefix_of r ≡ Some prefix → (told : Told) (old new : Keys) (lock : Lock) (in' out : KeysetFile) → HasDistinctIds old → AllByRecursion HasWordId old.records → HasData r old
     → Does standard_table told old new (edit_keyset lock (edits.Enable r.id) in' out) → HasSameKey r new
 enabled_by r prefix has told old new lock in' out apart words h does =
     enable_gives_back old new r prefix told.random does.stepped apart words has h (ap (λ e. step old e told.random) (same_Ok _ _ does.is) ∙ does.steps) does.accepted
@@ -344,7 +344,7 @@ given_back_under_lock firsts firsts_stored l first locked run opening text put a
 
 -- ---- the first keyset
 
-created : FaultlessKeysets → BinaryBack → JsonBack → FirstsAreKeysets → FirstsAreStored → (told : Told) (template : List ℕ) (out : Place) (after : Written) → (answer (command_plan standard_table (create_keyset None template out)) told).status ≡ status.Done → AllByRecursion (λ b. b < 256) told.random → out.form ≡ after.form
+created : FaultlessKeysets → BinaryBack → JsonBack → FirstsAreKeysets → FirstsAreStored → (told : Told) (template : List ℕ) (out : KeysetFile) (after : Written) → (answer (command_plan standard_table (create_keyset None template out)) told).status ≡ status.Done → AllByRecursion (λ b. b < 256) told.random → out.form ≡ after.form
     → bytes_at out.file (answer (command_plan standard_table (create_keyset None template out)) told).files (answer (command_plan standard_table (create_keyset None template out)) told).output ≡ Some after.bytes
     → (keys : Keys) × (keyset_of after ≡ Some keys) × HasDistinctIds keys
 created law binary json firsts firsts_stored told template out after done random form put =

@@ -31,7 +31,7 @@ use Rattle.tinkey_plans.specs.Plan.{Answer, Told, answer, exchanges, writes}
 use Rattle.tinkey_plans.specs.Session.{holds_session, saves}
 use Rattle.tinkey_plans.specs.Using.{limit_for, works}
 use Rattle.tinkey_words.specs.declared.words.rows.Format.{Format}
-use Rattle.tinkey_words.specs.Words.{Asked, AskedWork, Lock, Place, create_keyset, edit_keyset, list_keyset, key_of, convert_keyset, list_key_templates, use_keyset, use_envelope, seal_stream, open_stream, reseal_stream, open_range, self_test, session, help, version, to_seal, to_open, to_dseal, to_dopen, to_reseal, to_dreseal, to_tag, to_verify, to_derive, primitive_for}
+use Rattle.tinkey_words.specs.Words.{Asked, AskedWork, Lock, KeysetFile, create_keyset, edit_keyset, list_keyset, key_of, convert_keyset, list_key_templates, use_keyset, use_envelope, seal_stream, open_stream, reseal_stream, open_range, self_test, session, help, version, to_seal, to_open, to_dseal, to_dopen, to_reseal, to_dreseal, to_tag, to_verify, to_derive, primitive_for}
 use Rattle.ready_keysets.specs.Working.{answer as call_answer}
 use Rattle.ready_keysets.specs.declared.work.Work.{Work}
 use Rattle.tinkey_readable.proofs.CallLemmas.{call_dopens, call_opens, call_verifies}
@@ -93,7 +93,7 @@ record IsSessionAsked (asked : Asked) : Type 0 where
   lock : Lock
   name : List ℕ
   form : Format
-  out : Place
+  out : KeysetFile
   is : session lock name form out ≡ asked
 
 session_asked : (asked : Asked) → IsSession asked → IsSessionAsked asked
@@ -124,7 +124,7 @@ abbrev AreShort : List (List ℕ) → Type 0
 AreShort lines = AllByRecursion (λ line. length line ≤ line_limit) lines
 
 -- they are within the limit of a line, since the session went to its end
-named_short : TalkIsTurns → (table : Table) (name : List ℕ) (form : Format) (out : Place) (file : Option (List ℕ)) (told : Told) (before : Written) (old : Keys) (h : Handing) → session_handing name form out file ≡ Some h
+named_short : TalkIsTurns → (table : Table) (name : List ℕ) (form : Format) (out : KeysetFile) (file : Option (List ℕ)) (told : Told) (before : Written) (old : Keys) (h : Handing) → session_handing name form out file ≡ Some h
     → IsDoneAnswer (answer (command_plan table (session None name form out)) told) → h.taken.form ≡ before.form → bytes_at h.taken.file told.files told.input ≡ Some before.bytes → keyset_of before ≡ Some old → AreShort (lines_of told.input)
 named_short law table name form out None told before old h e done form_is read is = clash e
 named_short law table name form out (Some file) told before old h e done form_is read is =
@@ -137,7 +137,7 @@ named_short law table name form out (Some file) told before old h e done form_is
     (talk_done law table None out old told (ap (λ (a : Answer). a.status) (sym free) ∙ whole)).short
 
 -- a session under a lock hands nothing on
-session_short : TalkIsTurns → (table : Table) (lock : Lock) (name : List ℕ) (form : Format) (out : Place) (run : Run) (before after : Written) (old : Keys) → session lock name form out ≡ run.asked → HandsOn table run before after → keyset_of before ≡ Some old → AreShort (lines_of run.told.input)
+session_short : TalkIsTurns → (table : Table) (lock : Lock) (name : List ℕ) (form : Format) (out : KeysetFile) (run : Run) (before after : Written) (old : Keys) → session lock name form out ≡ run.asked → HandsOn table run before after → keyset_of before ≡ Some old → AreShort (lines_of run.told.input)
 session_short law table None name form out run before after old is hands read =
     let d = hands.handed in
     named_short law table name form out out.file run.told before old hands.handing (ap hands_on is ∙ hands.hands)

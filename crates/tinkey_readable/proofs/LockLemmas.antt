@@ -28,7 +28,7 @@ use Rattle.tinkey_readable.proofs.WrappedRunLemmas.{given_keyset, text_done, tex
 use Rattle.tinkey_readable.specs.Anywhere.{ServesUnder}
 use Rattle.tinkey_readable.specs.LockedRuns.{GivesUnder, IsDoneUnder, WasDoneUnder}
 use Rattle.tinkey_readable.specs.Runs.{Written, bytes_at, keyset_of, read_in}
-use Rattle.tinkey_words.specs.Words.{AskedWork, Place, primitive_for}
+use Rattle.tinkey_words.specs.Words.{AskedWork, KeysetFile, primitive_for}
 use Rattle.tinkey_words.specs.declared.words.rows.Format.{Format}
 
 -- ---- what a text gives is a keyset
@@ -81,14 +81,14 @@ lock_reached from table name form bytes master next told there e within fit =
     load_reached from name form bytes master (λ m. handles table Aead m (λ fit. next (Some m))) told there e within
     ∙ ap (λ u. answer (unless_unfit u (next (Some master))) told) fit
 
-pub under_done : (from : Origin) (master : Keys) (place : Place) (bytes : List ℕ) (keys : Keys) (next : Keys → Plan) (told : Told) → bytes_at place.file told.files told.input ≡ Some bytes → unwrap_of master standard_table bytes (is_json place.form) ≡ Ok keys
+pub under_done : (from : Origin) (master : Keys) (place : KeysetFile) (bytes : List ℕ) (keys : Keys) (next : Keys → Plan) (told : Told) → bytes_at place.file told.files told.input ≡ Some bytes → unwrap_of master standard_table bytes (is_json place.form) ≡ Ok keys
     → IsDoneAnswer (answer (takes_under from standard_table (Some master) place next) told)
     → answer (takes_under from standard_table (Some master) place next) told ≡ answer (next keys) (behind place.file told)
 under_done from master place bytes keys next told there gives done =
     text_done from place.file bytes (λ text. unwraps (origin_of from place.file) master standard_table place.form text next) told there done
     ∙ given_keyset (origin_of from place.file) master place.form bytes keys next (behind place.file told) gives
 
-pub under_reached : (from : Origin) (master : Keys) (place : Place) (bytes : List ℕ) (keys : Keys) (next : Keys → Plan) (told : Told) → bytes_at place.file told.files told.input ≡ Some bytes → unwrap_of master standard_table bytes (is_json place.form) ≡ Ok keys → length bytes ≤ wrapped_limit
+pub under_reached : (from : Origin) (master : Keys) (place : KeysetFile) (bytes : List ℕ) (keys : Keys) (next : Keys → Plan) (told : Told) → bytes_at place.file told.files told.input ≡ Some bytes → unwrap_of master standard_table bytes (is_json place.form) ≡ Ok keys → length bytes ≤ wrapped_limit
     → answer (takes_under from standard_table (Some master) place next) told ≡ answer (next keys) (behind place.file told)
 under_reached from master place bytes keys next told there gives within =
     text_reached from place.file bytes (λ text. unwraps (origin_of from place.file) master standard_table place.form text next) told there within
@@ -99,7 +99,7 @@ pub locked_done : (master text : Written) (over keys : Keys) (lock name : List �
     → IsDoneAnswer (answer (loads_locked standard_table (Some (record { file = lock; form = master.form })) name text.form next) told)
     → answer (loads_locked standard_table (Some (record { file = lock; form = master.form })) name text.form next) told ≡ answer (next keys) told
 locked_done master text over keys lock name next told opens read lies gives done =
-    let place : Place = record { file = Some name; form = text.form } in
+    let place : KeysetFile = record { file = Some name; form = text.form } in
     let o = lock_done origins.Master standard_table lock master.form master.bytes over (λ m. takes_under origins.Keyset standard_table m place next) told opens read done in
     o.goes_on ∙ under_done origins.Keyset over place text.bytes keys next told lies gives (ap (λ (a : Answer). a.status) (sym o.goes_on) ∙ done)
 
@@ -107,7 +107,7 @@ pub locked_reached : (master text : Written) (over keys : Keys) (lock name : Lis
     → length master.bytes ≤ keyset_limit → unfit over Aead standard_table ≡ None → length text.bytes ≤ wrapped_limit
     → answer (loads_locked standard_table (Some (record { file = lock; form = master.form })) name text.form next) told ≡ answer (next keys) told
 locked_reached master text over keys lock name next told opens read lies gives within fit short =
-    let place : Place = record { file = Some name; form = text.form } in
+    let place : KeysetFile = record { file = Some name; form = text.form } in
     lock_reached origins.Master standard_table lock master.form master.bytes over (λ m. takes_under origins.Keyset standard_table m place next) told opens read within fit
     ∙ under_reached origins.Keyset over place text.bytes keys next told lies gives short
 

@@ -38,7 +38,7 @@ use Rattle.tinkey_plans.specs.Steps.{puts}
 use Rattle.tinkey_plans.specs.Wrapping.{is_json}
 use Rattle.tinkey_plans.specs.declared.status.Status.TheVariants as status
 use Rattle.tinkey_words.specs.declared.words.rows.Format.{Format}
-use Rattle.tinkey_words.specs.Words.{Asked, AskedEdit, Lock, Master, Place, as_taken, convert_keyset, create_keyset, edit_keyset, under}
+use Rattle.tinkey_words.specs.Words.{Asked, AskedEdit, Lock, Master, KeysetFile, as_taken, convert_keyset, create_keyset, edit_keyset, under}
 use Rattle.tinkey_readable.specs.LockedHiding.{LockedRunsPut, LockedSessionsSave, Makes, PutsAlone, PutsSealed, SealedAlike, SealedPut, ShowsInfoAlone}
 use Rattle.tinkey_readable.specs.Lying.{FitsThere, OpensLock}
 use Rattle.tinkey_readable.specs.Runs.{IsFree}
@@ -66,7 +66,7 @@ shows hides table over keys form random wrapped made =
     let h = hides (is_json form) table keys over random wrapped made in
     record { random = random; sealed = h.0; seals = h.1; is = h.3 }
 
-put_so : TextHidesKeys → (table : Table) (lock : Master) (master : Option Keys) (out : Place) (keys : Keys) (told left : Told) (a : Answer) → OpensLock table (Some lock) told master → FitsThere table master out.form keys left.random → IsFree out.file left.files → left.files ≡ told.files → a ≡ answer (puts_under table master out keys) left
+put_so : TextHidesKeys → (table : Table) (lock : Master) (master : Option Keys) (out : KeysetFile) (keys : Keys) (told left : Told) (a : Answer) → OpensLock table (Some lock) told master → FitsThere table master out.form keys left.random → IsFree out.file left.files → left.files ≡ told.files → a ≡ answer (puts_under table master out keys) left
     → PutsSealed table lock out told keys a
 put_so hides table lock None out keys told left a opens fits free same is = absurd opens
 put_so hides table lock (Some over) out keys told left a opens fits free same is =
@@ -85,12 +85,12 @@ put_so hides table lock (Some over) out keys told left a opens fits free same is
 abbrev Put : Table → Asked → Told → SealedPut → Type 0
 Put table asked told put = (keys : Keys) × Makes table told keys asked × PutsSealed table put.lock put.out told keys (answer (command_plan table asked) told)
 
-created : TextHidesKeys → (table : Table) (lock : Master) (template : List ℕ) (out : Place) (told : Told) → IsDoneAnswer (answer (command_plan table (create_keyset (Some lock) template out)) told) → Put table (create_keyset (Some lock) template out) told (record { lock = lock; out = out })
+created : TextHidesKeys → (table : Table) (lock : Master) (template : List ℕ) (out : KeysetFile) (told : Told) → IsDoneAnswer (answer (command_plan table (create_keyset (Some lock) template out)) told) → Put table (create_keyset (Some lock) template out) told (record { lock = lock; out = out })
 created hides table lock template out told done =
     let x = create_goes table (Some lock) template out told done in
     (x.new, x.created, put_so hides table lock x.master out x.new told (record told { random = x.created.stepped.left }) _ x.opens x.fits x.free refl (create_answers table (Some lock) template out told x))
 
-edited : TextHidesKeys → (table : Table) (lock : Master) (asked : AskedEdit) (in' out : Place) (told : Told) → IsDoneAnswer (answer (command_plan table (edit_keyset (Some lock) asked in' out)) told) → Put table (edit_keyset (Some lock) asked in' out) told (record { lock = lock; out = out })
+edited : TextHidesKeys → (table : Table) (lock : Master) (asked : AskedEdit) (in' out : KeysetFile) (told : Told) → IsDoneAnswer (answer (command_plan table (edit_keyset (Some lock) asked in' out)) told) → Put table (edit_keyset (Some lock) asked in' out) told (record { lock = lock; out = out })
 edited hides table lock asked in' out told done =
     let x = edit_goes table (Some lock) asked in' out told done in
     let same = behind_files in'.file told in
@@ -98,18 +98,18 @@ edited hides table lock asked in' out told done =
     (x.new, (x.old, record { master = x.master; opens = x.opens; lies = x.lies }, x.accepted), put_so hides table lock x.master out x.new told left _ x.opens x.fits (subst (IsFree out.file) (sym same) x.free) same (edit_answers table (Some lock) asked in' out told x))
 
 -- a keyset that is converted, under the lock that it is put under
-converted_so : TextHidesKeys → (table : Table) (lock : Lock) (put : Master) (in' out : Place) (told : Told) (a : Answer) (taken master : Option Keys) (keys : Keys) → OpensLock table (Some put) told master → FitsThere table master out.form keys told.random → IsFree out.file told.files → a ≡ answer (puts_under table master out keys) (behind in'.file told)
+converted_so : TextHidesKeys → (table : Table) (lock : Lock) (put : Master) (in' out : KeysetFile) (told : Told) (a : Answer) (taken master : Option Keys) (keys : Keys) → OpensLock table (Some put) told master → FitsThere table master out.form keys told.random → IsFree out.file told.files → a ≡ answer (puts_under table master out keys) (behind in'.file told)
     → PutsSealed table put out told keys a
 converted_so hides table lock put in' out told a taken master keys opens fits free is =
     let same = behind_files in'.file told in
     put_so hides table put master out keys told (behind in'.file told) a opens (subst (FitsThere table master out.form keys) (sym (behind_random in'.file told)) fits) (subst (IsFree out.file) (sym same) free) same is
 
-converted : TextHidesKeys → (table : Table) (lock : Master) (in' out : Place) (told : Told) → IsDoneAnswer (answer (command_plan table (convert_keyset (Some lock) as_taken in' out)) told) → Put table (convert_keyset (Some lock) as_taken in' out) told (record { lock = lock; out = out })
+converted : TextHidesKeys → (table : Table) (lock : Master) (in' out : KeysetFile) (told : Told) → IsDoneAnswer (answer (command_plan table (convert_keyset (Some lock) as_taken in' out)) told) → Put table (convert_keyset (Some lock) as_taken in' out) told (record { lock = lock; out = out })
 converted hides table lock in' out told done =
     let x = convert_goes table (Some lock) as_taken in' out told done in
     (x.keys, record { master = x.taken; opens = x.opens; lies = x.lies }, converted_so hides table (Some lock) lock in' out told _ x.taken x.put x.keys (subst (OpensLock table (Some lock) told) x.opens_new x.opens) x.fits x.free (convert_answers table (Some lock) as_taken in' out told x))
 
-converted_under : TextHidesKeys → (table : Table) (lock : Lock) (new : Master) (in' out : Place) (told : Told) → IsDoneAnswer (answer (command_plan table (convert_keyset lock (under new) in' out)) told) → Put table (convert_keyset lock (under new) in' out) told (record { lock = new; out = out })
+converted_under : TextHidesKeys → (table : Table) (lock : Lock) (new : Master) (in' out : KeysetFile) (told : Told) → IsDoneAnswer (answer (command_plan table (convert_keyset lock (under new) in' out)) told) → Put table (convert_keyset lock (under new) in' out) told (record { lock = new; out = out })
 converted_under hides table lock new in' out told done =
     let x = convert_goes table lock (under new) in' out told done in
     (x.keys, record { master = x.taken; opens = x.opens; lies = x.lies }, converted_so hides table lock new in' out told _ x.taken x.put x.keys x.opens_new x.fits x.free (convert_answers table lock (under new) in' out told x))
@@ -126,7 +126,7 @@ locked_runs_put hides table _ told put e done = clash e
 
 pub locked_sessions_save : TextHidesKeys → LockedSessionsSave
 locked_sessions_save hides table lock name file form of_out told done =
-    let out : Place = record { file = Some file; form = of_out } in
+    let out : KeysetFile = record { file = Some file; form = of_out } in
     let x = session_is table (Some lock) name form out told done in
     let t = talk table x.keys told.input told.random true in
     let left = record told { input = []; random = t.random } in

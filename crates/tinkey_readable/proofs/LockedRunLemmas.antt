@@ -22,7 +22,7 @@ use Rattle.tinkey_cmds.proofs.Fronts.{fronts-first, fronts-step}
 use Rattle.tinkey_cmds.specs.Draws.{Drawn}
 use Rattle.tinkey_cmds.specs.Edits.{Edit, first, step}
 use Rattle.tinkey_cmds.specs.Laws.{EditsKeepKeysets, FirstsAreKeysets}
-use Rattle.tinkey_cmds.specs.declared.command.CmdFault.{CmdFault}
+use Rattle.tinkey_cmds.specs.declared.command.EditRefusal.{EditRefusal}
 use Rattle.tinkey_session.proofs.DrawLemmas.{lines_draw_fronts}
 use Rattle.tinkey_session.proofs.Options.{clash, map_some}
 use Rattle.tinkey_session.proofs.TurnLemmas.{edited_on, named_template}
@@ -54,7 +54,7 @@ use Rattle.tinkey_readable.specs.LockedRuns.{GivesUnder}
 use Rattle.tinkey_readable.specs.Runs.{AreLocked, CreatesUnder, Does, DrawsBytes, GoesLocked, GoesUnder, HoldsBytes, IsCreated, Keeps, LockedHanding, LocksStep, ReadIsStored, Run, StillOpens, HandsUnder, Wraps, Written, bytes_at, hands_under, keyset_of, read_in, session_under}
 use Rattle.tinkey_words.specs.declared.words.rows.Format.{Format}
 use Rattle.tinkey_words.specs.declared.words.rows.Format.TheVariants as formats
-use Rattle.tinkey_words.specs.Words.{Asked, AskedEdit, Master, Place, as_taken, convert_keyset, create_keyset, edit_keyset, help, in_clear, key_of, list_key_templates, list_keyset, open_range, open_stream, reseal_stream, seal_stream, self_test, session, under, use_envelope, use_keyset, version}
+use Rattle.tinkey_words.specs.Words.{Asked, AskedEdit, Master, KeysetFile, as_taken, convert_keyset, create_keyset, edit_keyset, help, in_clear, key_of, list_key_templates, list_keyset, open_range, open_stream, reseal_stream, seal_stream, self_test, session, under, use_envelope, use_keyset, version}
 
 -- what is known of keysets, edits, sessions and wrapping
 pub record StepLaws : Type 0 where
@@ -120,13 +120,13 @@ given_again l master later text keys o s =
 
 -- ---- a keyset that is put under a master
 
-record PutUnder (over : Keys) (out : Place) (keys : Keys) (told : Told) : Type 0 where
+record PutUnder (over : Keys) (out : KeysetFile) (keys : Keys) (told : Told) : Type 0 where
   wrapped : Wrapped
   is : wrap_of keys over standard_table told.random (is_json out.form) ≡ Some wrapped
   short : length wrapped.text ≤ wrapped_limit
   there : bytes_at out.file (answer (puts_under standard_table (Some over) out keys) told).files (answer (puts_under standard_table (Some over) out keys) told).output ≡ Some wrapped.text
 
-put_under : (over : Keys) (out : Place) (keys : Keys) (told : Told) → IsDoneAnswer (answer (puts_under standard_table (Some over) out keys) told) → PutUnder over out keys told
+put_under : (over : Keys) (out : KeysetFile) (keys : Keys) (told : Told) → IsDoneAnswer (answer (puts_under standard_table (Some over) out keys) told) → PutUnder over out keys told
 put_under over out keys told done =
     let make : List ℕ → Plan = λ plain. makes_wrapped keys over standard_table out.form (puts out.file) in
     let w = within_done keyset_limit make (written_in formats.Binary keys) told done in
@@ -135,7 +135,7 @@ put_under over out keys told done =
     let p = bytes_put out.file m.wrapped.text (record told { random = m.wrapped.left }) (ap (λ (a : Answer). a.status) (sym whole) ∙ done) in
     record { wrapped = m.wrapped; is = m.is; short = m.within; there = ap (λ (a : Answer). bytes_at out.file a.files a.output) whole ∙ p }
 
-sealed_so : (put after : Written) (over keys : Keys) (out : Place) (told : Told) (p : PutUnder over out keys told) (found : Option (List ℕ)) → keyset_of put ≡ Some over → length put.bytes ≤ keyset_limit → AreBytes told.random → out.form ≡ after.form → found ≡ Some after.bytes → found ≡ Some p.wrapped.text → fault_of keys ≡ None → AreStored keys
+sealed_so : (put after : Written) (over keys : Keys) (out : KeysetFile) (told : Told) (p : PutUnder over out keys told) (found : Option (List ℕ)) → keyset_of put ≡ Some over → length put.bytes ≤ keyset_limit → AreBytes told.random → out.form ≡ after.form → found ≡ Some after.bytes → found ≡ Some p.wrapped.text → fault_of keys ≡ None → AreStored keys
     → UnderSeal put after keys
 sealed_so put after over keys out told p found read within bytes form there is faultless stored = record {
   over = over;
@@ -179,15 +179,15 @@ record Went (asked : Asked) (told : Told) (master text put after : Written) (ove
   put' : bytes_at x.handing.put.file (answer (command_plan standard_table asked) told).files (answer (command_plan standard_table asked) told).output ≡ Some after.bytes
 
 -- one lock is one master
-abbrev same_handing : Master → Place → Place → LockedHanding
+abbrev same_handing : Master → KeysetFile → KeysetFile → LockedHanding
 same_handing lock in' out = record { lock = lock; new = lock; handing = record { taken = in'; put = out } }
 
-one_master : {asked : Asked} {told : Told} {text after : Written} {over old : Keys} (lock : Master) (in' out : Place) (master put : Written) → Went asked told master text put after over old (same_handing lock in' out) → master ≡ put
+one_master : {asked : Asked} {told : Told} {text after : Written} {over old : Keys} (lock : Master) (in' out : KeysetFile) (master put : Written) → Went asked told master text put after over old (same_handing lock in' out) → master ≡ put
 one_master lock in' out master put w =
     ap (λ (bytes : List ℕ). record { bytes = bytes; form = master.form }) (same_Some _ _ (sym w.lies ∙ w.new_lies))
     ∙ ap (λ (form : Format). record { bytes = put.bytes; form = form }) (sym w.form ∙ w.new_form)
 
-edit_under : StepLaws → (lock : Master) (edit : AskedEdit) (in' out : Place) (told : Told) (master text put after : Written) (over old : Keys)
+edit_under : StepLaws → (lock : Master) (edit : AskedEdit) (in' out : KeysetFile) (told : Told) (master text put after : Written) (over old : Keys)
     → Went (edit_keyset (Some lock) edit in' out) told master text put after over old (same_handing lock in' out)
     → StepUnder (edit_keyset (Some lock) edit in' out) told old put after
 edit_under l lock edit in' out told master text put after over old w =
@@ -213,7 +213,7 @@ edit_under l lock edit in' out told master text put after over old w =
       seal = subst (λ x. UnderSeal x after m.new) (one_master lock in' out master put w) seal;
     }
 
-convert_under : (lock : Master) (in' out : Place) (told : Told) (master text put after : Written) (over old : Keys)
+convert_under : (lock : Master) (in' out : KeysetFile) (told : Told) (master text put after : Written) (over old : Keys)
     → Went (convert_keyset (Some lock) as_taken in' out) told master text put after over old (same_handing lock in' out)
     → StepUnder (convert_keyset (Some lock) as_taken in' out) told old put after
 convert_under lock in' out told master text put after over old w =
@@ -227,7 +227,7 @@ convert_under lock in' out told master text put after over old w =
     let seal = sealed_so master after over old out behind' p _ w.read o.within (subst AreBytes (sym (behind_random in'.file told)) w.random) w.put_form w.put' (ap (λ (a : Answer). bytes_at out.file a.files a.output) whole ∙ p.there) w.faultless w.stored in
     record { new = old; does = refl; seal = subst (λ x. UnderSeal x after old) (one_master lock in' out master put w) seal }
 
-rewrap_under : (lock new : Master) (in' out : Place) (told : Told) (master text put after : Written) (over old : Keys)
+rewrap_under : (lock new : Master) (in' out : KeysetFile) (told : Told) (master text put after : Written) (over old : Keys)
     → Went (convert_keyset (Some lock) (under new) in' out) told master text put after over old (record { lock = lock; new = new; handing = record { taken = in'; put = out } })
     → StepUnder (convert_keyset (Some lock) (under new) in' out) told old put after
 rewrap_under lock new in' out told master text put after over old w =
@@ -248,7 +248,7 @@ rewrap_under lock new in' out told master text put after over old w =
     }
 
 -- what a session saved under a master
-record SavedUnder (over : Keys) (out : Place) (keys : Keys) (told : Told) (file : List ℕ) : Type 0 where
+record SavedUnder (over : Keys) (out : KeysetFile) (keys : Keys) (told : Told) (file : List ℕ) : Type 0 where
   put : PutUnder over out keys told
   there : map.get (answer (saves standard_table (Some over) out keys) told).files file ≡ Some put.wrapped.text
 
@@ -261,8 +261,8 @@ session_step : StepLaws → (lock : Master) (name : List ℕ) (form of_out : For
     → Went (session (Some lock) name form (record { file = Some file; form = of_out })) told master text put after over old (same_handing lock (record { file = Some name; form = form }) (record { file = Some file; form = of_out }))
     → StepUnder (session (Some lock) name form (record { file = Some file; form = of_out })) told old put after
 session_step l lock name form of_out file told master text put after over old w =
-    let in' : Place = record { file = Some name; form = form } in
-    let out : Place = record { file = Some file; form = of_out } in
+    let in' : KeysetFile = record { file = Some name; form = form } in
+    let out : KeysetFile = record { file = Some file; form = of_out } in
     let holds : Option Keys → Plan = λ m. takes_under origins.Keyset standard_table m in' (holds_session standard_table m out) in
     let o = lock_done origins.Master standard_table lock.file lock.form master.bytes over holds told w.lies (ap (λ x. read_in x master.bytes) w.form ∙ w.read) w.done in
     let d1 : IsDoneAnswer (answer (holds (Some over)) told) = ap (λ (a : Answer). a.status) (sym o.goes_on) ∙ w.done in
@@ -495,7 +495,7 @@ record CreatedUnder (template random : List ℕ) (master text : Written) : Type 
   created : IsCreated template random new
   seal : UnderSeal master text new
 
-created_under : FirstsAreKeysets → FirstsAreStored → (lock : Master) (template : List ℕ) (out : Place) (told : Told) (master text : Written) (over : Keys) → lock.form ≡ master.form → map.get told.files lock.file ≡ Some master.bytes → keyset_of master ≡ Some over → AreBytes told.random
+created_under : FirstsAreKeysets → FirstsAreStored → (lock : Master) (template : List ℕ) (out : KeysetFile) (told : Told) (master text : Written) (over : Keys) → lock.form ≡ master.form → map.get told.files lock.file ≡ Some master.bytes → keyset_of master ≡ Some over → AreBytes told.random
     → IsDoneAnswer (answer (command_plan standard_table (create_keyset (Some lock) template out)) told) → out.form ≡ text.form
     → bytes_at out.file (answer (command_plan standard_table (create_keyset (Some lock) template out)) told).files (answer (command_plan standard_table (create_keyset (Some lock) template out)) told).output ≡ Some text.bytes
     → CreatedUnder template told.random master text
@@ -581,7 +581,7 @@ created_once : (template random : List ℕ) (old new : Keys) → IsCreated templ
 created_once template random old new x y =
     let rows : y.row ≡ x.row = same_Some _ _ (sym y.named ∙ x.named) in
     let steps : y.stepped ≡ x.stepped = same_Some _ _ (sym y.steps ∙ ap (λ (row : Row). first row random) rows ∙ x.steps) in
-    let answers : ◌≡◌ {A = Result Keys CmdFault} (Ok new) (Ok old) = sym y.accepted ∙ ap (λ (s : Drawn Keys). s.answer) steps ∙ x.accepted in
+    let answers : ◌≡◌ {A = Result Keys EditRefusal} (Ok new) (Ok old) = sym y.accepted ∙ ap (λ (s : Drawn Keys). s.answer) steps ∙ x.accepted in
     cc
 
 -- so does one that was created under a master

@@ -14,7 +14,7 @@ use Rattle.keyset_model.specs.Keyset.{Keys, fault_of}
 use Rattle.keyset_model.specs.Reading.{reads_binary}
 use Rattle.keyset_model.specs.Reading as binary
 use Rattle.keyset_model.specs.Writing.{ReadKeysFit}
-use Rattle.keyset_model.specs.declared.keyset.KeysetFault.{KeysetFault}
+use Rattle.keyset_model.specs.declared.keyset.KeysetRefusal.{KeysetRefusal}
 use Rattle.managers.specs.Standard.{standard_table}
 use Rattle.managers.specs.Table.{Table}
 use Rattle.seal_wrap.specs.Unwrapped.{Fault, InnerWire, Member, NotJson, NotOpened, OuterWire, Refusal, is_wrapped_binary, is_wrapped_json, unwrap_of}
@@ -35,7 +35,7 @@ use Rattle.tinkey_plans.specs.declared.sealer.Sealer.{Sealer}
 use Rattle.tinkey_plans.specs.Wrapping.{as_wrapping, ends_unopened, is_json, is_keyset, keyset_sealer, makes_wrapped, with_unwrapped, wrapped_limit}
 use Rattle.tinkey_words.specs.declared.words.rows.Format.{Format}
 use Rattle.tinkey_words.specs.declared.words.rows.Format.TheVariants as formats
-use Rattle.tinkey_words.specs.Words.{Lock, Master, NewLock, Place, as_taken, in_clear, under}
+use Rattle.tinkey_words.specs.Words.{Lock, Master, NewLock, KeysetFile, as_taken, in_clear, under}
 use Rattle.tinkey_readable.specs.Anywhere.{IsTaken, ServesAsMaster}
 use Rattle.tinkey_readable.specs.Lying.{FitsThere, GivesKeyset, IsMaster, Lies, LiesAs, LiesBehind, LiesThere, Lying, MasterLiesIn, OpensLock, OpensMaster, OpensNewLock, SealsUnder, clear, lock_in}
 use Rattle.tinkey_readable.specs.Runs.{IsFree, LiesIn, Written, bytes_at, keyset_of, read_in}
@@ -70,7 +70,7 @@ bytes_taken from limit None bytes next told there within =
 
 -- ---- a keyset
 
-not_faulty : (from : Origin) (b : Bool) (fault : KeysetFault) (told : Told) → IsDoneAnswer (answer (if b then ends (status.KeysetLocked fault from) tt else ends (status.Keyset fault) tt) told) → ⊥
+not_faulty : (from : Origin) (b : Bool) (fault : KeysetRefusal) (told : Told) → IsDoneAnswer (answer (if b then ends (status.KeysetLocked fault from) tt else ends (status.Keyset fault) tt) told) → ⊥
 not_faulty from true fault told done = cc
 not_faulty from false fault told done = cc
 
@@ -119,7 +119,7 @@ given_faultless table None form bytes keys gives = read_faultless (record { byte
 given_faultless table (Some over) form bytes keys gives = (unwrapped_is_keyset table over (is_json form) bytes keys gives).faultless
 
 -- one that lies at a place
-pub takes_there : (from : Origin) (table : Table) (master : Option Keys) (place : Place) (next : Keys → Plan) (told : Told) → IsDoneAnswer (answer (takes_under from table master place next) told) → (keys : Keys) × LiesThere table master place told keys
+pub takes_there : (from : Origin) (table : Table) (master : Option Keys) (place : KeysetFile) (next : Keys → Plan) (told : Told) → IsDoneAnswer (answer (takes_under from table master place next) told) → (keys : Keys) × LiesThere table master place told keys
 takes_there from table master place next told done =
     let read : List ℕ → Plan = λ bytes. keyset_under (origin_of from place.file) table master place.form bytes next in
     let b = bytes_there from (limit_under master) place.file read told done in
@@ -127,14 +127,14 @@ takes_there from table master place next told done =
     let k = keyset_there (origin_of from place.file) table master place.form b.0 next (behind place.file told) (ap (λ (a : Answer). a.status) (sym t) ∙ done) in
     (k.0, record { bytes = b.0; there = b.1; within = b.2; gives = k.1 })
 
-pub takes_reached : (from : Origin) (table : Table) (master : Option Keys) (place : Place) (keys : Keys) (next : Keys → Plan) (told : Told) → LiesThere table master place told keys → answer (takes_under from table master place next) told ≡ answer (next keys) (behind place.file told)
+pub takes_reached : (from : Origin) (table : Table) (master : Option Keys) (place : KeysetFile) (keys : Keys) (next : Keys → Plan) (told : Told) → LiesThere table master place told keys → answer (takes_under from table master place next) told ≡ answer (next keys) (behind place.file told)
 takes_reached from table master place keys next told lies =
     bytes_taken from (limit_under master) place.file lies.bytes (λ bytes. keyset_under (origin_of from place.file) table master place.form bytes next) told lies.there lies.within
     ∙ keyset_given (origin_of from place.file) table master place.form lies.bytes keys next (behind place.file told) lies.gives
 
 -- ---- a lock
 
-abbrev master_place : Master → Place
+abbrev master_place : Master → KeysetFile
 master_place lock = record { file = Some lock.file; form = lock.form }
 
 abbrev fits_master : Table → (Option Keys → Plan) → Keys → Plan
@@ -175,7 +175,7 @@ new_lock_reached table (under master) taken None next told opens = absurd opens
 new_lock_reached table (under master) taken (Some over) next told opens = master_reached (put_origin taken) table master over next told opens
 
 -- a keyset behind a lock
-pub behind_there : (from : Origin) (table : Table) (lock : Lock) (place : Place) (next : Keys → Plan) (told : Told) → IsDoneAnswer (answer (takes_locked from table lock place next) told) → (keys : Keys) × LiesBehind table lock place told keys
+pub behind_there : (from : Origin) (table : Table) (lock : Lock) (place : KeysetFile) (next : Keys → Plan) (told : Told) → IsDoneAnswer (answer (takes_locked from table lock place next) told) → (keys : Keys) × LiesBehind table lock place told keys
 behind_there from table lock place next told done =
     let taken : Option Keys → Plan = λ master. takes_under from table master place next in
     let m = lock_there table lock taken told done in
@@ -183,7 +183,7 @@ behind_there from table lock place next told done =
     let k = takes_there from table m.0 place next told (ap (λ (a : Answer). a.status) (sym o) ∙ done) in
     (k.0, record { master = m.0; opens = m.1; lies = k.1 })
 
-pub behind_reached : (from : Origin) (table : Table) (lock : Lock) (place : Place) (keys : Keys) (next : Keys → Plan) (told : Told) → LiesBehind table lock place told keys → answer (takes_locked from table lock place next) told ≡ answer (next keys) (behind place.file told)
+pub behind_reached : (from : Origin) (table : Table) (lock : Lock) (place : KeysetFile) (keys : Keys) (next : Keys → Plan) (told : Told) → LiesBehind table lock place told keys → answer (takes_locked from table lock place next) told ≡ answer (next keys) (behind place.file told)
 behind_reached from table lock place keys next told lies =
     lock_reached table lock lies.master (λ master. takes_under from table master place next) told lies.opens
     ∙ takes_reached from table lies.master place keys next told lies.lies
@@ -195,7 +195,7 @@ loads_there table lock name form next told done = behind_there origins.Keyset ta
 pub loads_reached : (table : Table) (lock : Lock) (name : List ℕ) (form : Format) (keys : Keys) (next : Keys → Plan) (told : Told) → LiesBehind table lock (record { file = Some name; form = form }) told keys → answer (loads_locked table lock name form next) told ≡ answer (next keys) told
 loads_reached table lock name form keys next told lies = behind_reached origins.Keyset table lock (record { file = Some name; form = form }) keys next told lies
 
-pub behind_faultless : (table : Table) (lock : Lock) (place : Place) (told : Told) (keys : Keys) → LiesBehind table lock place told keys → fault_of keys ≡ None
+pub behind_faultless : (table : Table) (lock : Lock) (place : KeysetFile) (told : Told) (keys : Keys) → LiesBehind table lock place told keys → fault_of keys ≡ None
 behind_faultless table lock place told keys lies = given_faultless table lies.master place.form lies.lies.bytes keys lies.lies.gives
 
 -- ---- a keyset that is put
@@ -250,14 +250,14 @@ writes_reached table (Some over) form keys next told fits =
     ∙ fits_within wrapped_limit next fits.wrapped.text (record told { random = fits.wrapped.left }) fits.short
 
 -- a keyset that was put fits there, and its name was free
-pub put_there : (table : Table) (master : Option Keys) (out : Place) (keys : Keys) (told : Told) → IsDoneAnswer (answer (puts_under table master out keys) told) → (FitsThere table master out.form keys told.random) × IsFree out.file told.files
+pub put_there : (table : Table) (master : Option Keys) (out : KeysetFile) (keys : Keys) (told : Told) → IsDoneAnswer (answer (puts_under table master out keys) told) → (FitsThere table master out.form keys told.random) × IsFree out.file told.files
 put_there table master out keys told done =
     let fits = writes_there table master out.form keys (puts out.file) told done in
     let w = writes_reached table master out.form keys (puts out.file) told fits in
     let left = record told { random = fitting_left table master out.form keys told.random fits } in
     (fits, name_free out.file (fitting_bytes table master out.form keys told.random fits) left (ap (λ (a : Answer). a.status) (sym w) ∙ done))
 
-pub put_comes : (table : Table) (master : Option Keys) (out : Place) (keys : Keys) (told : Told) → FitsThere table master out.form keys told.random → IsFree out.file told.files → IsDoneAnswer (answer (puts_under table master out keys) told)
+pub put_comes : (table : Table) (master : Option Keys) (out : KeysetFile) (keys : Keys) (told : Told) → FitsThere table master out.form keys told.random → IsFree out.file told.files → IsDoneAnswer (answer (puts_under table master out keys) told)
 put_comes table master out keys told fits free =
     ap (λ (a : Answer). a.status) (writes_reached table master out.form keys (puts out.file) told fits)
     ∙ bytes_reached out.file (fitting_bytes table master out.form keys told.random fits) (record told { random = fitting_left table master out.form keys told.random fits }) free

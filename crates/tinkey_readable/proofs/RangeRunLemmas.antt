@@ -12,9 +12,9 @@ use Rattle.segment_stream.specs.StreamKeys.{stream_keys}
 use Rattle.tinkey_plans.specs.declared.status.Status.TheVariants as status
 use Rattle.tinkey_words.specs.Words.{AskedRange}
 use Rattle.tinkey_plans.specs.Plan.{Told, answer, create_answer, range_answer, refused}
-use Rattle.tinkey_plans.specs.Ranging.{opens_stretch, stretch_for, with_stretch}
+use Rattle.tinkey_plans.specs.Ranging.{opens_file_range, range_for, with_range}
 use Rattle.tinkey_plans.specs.Steps.{puts}
-use Rattle.tinkey_plans.specs.Stretch.{Opened}
+use Rattle.tinkey_plans.specs.FileRange.{Opened}
 use Rattle.tinkey_readable.specs.Runs.{IsFree}
 use Rattle.tinkey_readable.proofs.ReachLemmas.{IsDoneAnswer}
 use Rattle.tinkey_readable.proofs.StreamKeyLemmas.{OpensUnder}
@@ -46,9 +46,9 @@ pub puts_reached : (file : Option (List ℕ)) (bytes : List ℕ) (told : Told) �
 puts_reached (Some name) bytes told free = ap (λ (found : Option (List ℕ)). (create_answer found told name bytes (refused told status.OutExists)).status) free
 puts_reached None bytes told free = refl
 
--- what follows a stretch, by what it is
-pub stretch_reached : (keys : KeysForStreams) (ad stream : List ℕ) (range : AskedRange) (out : Option (List ℕ)) (told : Told) (opened : Opened) → map.get told.files range.file ≡ Some stream → range_of (ciphers_of ad keys.keys) stream range.from (range.from + range.size) ≡ opened
-    → answer (opens_stretch keys ad range (puts out)) told ≡ answer (with_stretch opened (puts out)) told
-stretch_reached keys ad stream range out told opened there is =
-    ap (λ (found : Option (List ℕ)). range_answer found (stretch_for keys ad range) (refused told status.StreamMissing) (λ o. answer (with_stretch o (puts out)) told)) there
-    ∙ ap (λ (o : Opened). answer (with_stretch o (puts out)) told) is
+-- what follows a range, by what it is
+pub file_range_reached : (keys : KeysForStreams) (ad stream : List ℕ) (range : AskedRange) (out : Option (List ℕ)) (told : Told) (opened : Opened) → map.get told.files range.file ≡ Some stream → range_of (ciphers_of ad keys.keys) stream range.from (range.from + range.size) ≡ opened
+    → answer (opens_file_range keys ad range (puts out)) told ≡ answer (with_range opened (puts out)) told
+file_range_reached keys ad stream range out told opened there is =
+    ap (λ (found : Option (List ℕ)). range_answer found (range_for keys ad range) (refused told status.StreamMissing) (λ o. answer (with_range o (puts out)) told)) there
+    ∙ ap (λ (o : Opened). answer (with_range o (puts out)) told) is

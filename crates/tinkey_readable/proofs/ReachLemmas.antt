@@ -13,7 +13,7 @@ use Rattle.keyset_model.specs.Reading.{reads_binary}
 use Rattle.managers.specs.Table.{Table}
 use Rattle.tinkey_cmds.specs.Draws.{Draw, Drawn}
 use Rattle.tinkey_cmds.specs.Edits.{Edit}
-use Rattle.tinkey_cmds.specs.declared.command.CmdFault.{CmdFault}
+use Rattle.tinkey_cmds.specs.declared.command.EditRefusal.{EditRefusal}
 use Rattle.tinkey_session.proofs.Options.{clash}
 use Rattle.tinkey_session.specs.Serving.{edit_named, or_refused}
 use Rattle.tinkey_session.specs.declared.reply.Refusal.{Refusal}
@@ -30,7 +30,7 @@ use Rattle.tinkey_readable.specs.Runs.{IsFree, read_in, bytes_at}
 use Rattle.tinkey_plans.specs.Steps.{keyset_limit, keyset_in, with_keyset, with_json, loads_keyset, reads_keyset, takes_keyset, keyset_at, reads_input, finds_edit, with_row, makes_keyset, with_made, puts, puts_keyset, written_in, refuses}
 use Rattle.tinkey_plans.specs.Handles.{handles, unless_unfit}
 use Rattle.tinkey_plans.specs.Using.{limit_for, use_output, works}
-use Rattle.tinkey_words.specs.Words.{AskedEdit, AskedWork, Place, primitive_for}
+use Rattle.tinkey_words.specs.Words.{AskedEdit, AskedWork, KeysetFile, primitive_for}
 
 abbrev pub IsDoneAnswer : Answer → Type 0
 IsDoneAnswer a = a.status ≡ status.Done
@@ -101,7 +101,7 @@ read_done form keys next told e done =
     went_done (nat_le (length told.input) keyset_limit) (answer (keyset_in origins.StandardInput form told.input next) (record told { input = [] })) (record (refused told status.KeysetTooLong) { input = Some (drop (keyset_limit + 1) told.input) }) (λ h. absurd (cc)) done
     ∙ keyset_reached origins.StandardInput form told.input keys next (record told { input = [] }) e
 
-pub taken_done : (place : Place) (bytes : List ℕ) (keys : Keys) (next : Keys → Plan) (told : Told) → bytes_at place.file told.files told.input ≡ Some bytes → read_in place.form bytes ≡ Some keys → IsDoneAnswer (answer (takes_keyset place next) told)
+pub taken_done : (place : KeysetFile) (bytes : List ℕ) (keys : Keys) (next : Keys → Plan) (told : Told) → bytes_at place.file told.files told.input ≡ Some bytes → read_in place.form bytes ≡ Some keys → IsDoneAnswer (answer (takes_keyset place next) told)
     → answer (takes_keyset place next) told ≡ answer (next keys) (behind place.file told)
 taken_done place bytes keys next told there e done = by_file place.file there done
   where
@@ -110,7 +110,7 @@ taken_done place bytes keys next told there e done = by_file place.file there do
     by_file None there done = let same : told.input ≡ bytes = cc in read_done place.form keys next told (ap (read_in place.form) same ∙ e) done
 
 -- what was taken is within the limit
-pub taken_within : (place : Place) (bytes : List ℕ) (next : Keys → Plan) (told : Told) → bytes_at place.file told.files told.input ≡ Some bytes → IsDoneAnswer (answer (takes_keyset place next) told) → length bytes ≤ keyset_limit
+pub taken_within : (place : KeysetFile) (bytes : List ℕ) (next : Keys → Plan) (told : Told) → bytes_at place.file told.files told.input ≡ Some bytes → IsDoneAnswer (answer (takes_keyset place next) told) → length bytes ≤ keyset_limit
 taken_within place bytes next told there done = by_file place.file there done
   where
     by_file : (file : Option (List ℕ)) → bytes_at file told.files told.input ≡ Some bytes → IsDoneAnswer (answer (keyset_at origins.In file place.form next) told) → length bytes ≤ keyset_limit
@@ -148,7 +148,7 @@ pub record MadeKeyset (give : Draw Keys) (next : Keys → Plan) (told : Told) : 
 pub made_done : (give : Draw Keys) (next : Keys → Plan) (told : Told) → IsDoneAnswer (answer (makes_keyset give next) told) → MadeKeyset give next told
 made_done give next told done = by_draw (give told.random) refl done
   where
-    by_answer : (drawn : Drawn Keys) (r : Result Keys CmdFault) → give told.random ≡ Some drawn → drawn.answer ≡ r → IsDoneAnswer (answer (with_made r next) (record told { random = drawn.left })) → MadeKeyset give next told
+    by_answer : (drawn : Drawn Keys) (r : Result Keys EditRefusal) → give told.random ≡ Some drawn → drawn.answer ≡ r → IsDoneAnswer (answer (with_made r next) (record told { random = drawn.left })) → MadeKeyset give next told
     by_answer drawn (Ok new) gave is done = record {
       drawn = drawn;
       gave = gave;
@@ -165,7 +165,7 @@ made_done give next told done = by_draw (give told.random) refl done
 -- ---- the file or the output
 
 -- a keyset that was put out is within the limit, and this is what was put out
-pub record PutOut (out : Place) (keys : Keys) (told : Told) : Type 0 where
+pub record PutOut (out : KeysetFile) (keys : Keys) (told : Told) : Type 0 where
   pub within : length (written_in out.form keys) ≤ keyset_limit
   pub there : bytes_at out.file (answer (puts_keyset out keys) told).files (answer (puts_keyset out keys) told).output ≡ Some (written_in out.form keys)
 
@@ -186,7 +186,7 @@ pub bytes_reached : (file : Option (List ℕ)) (bytes : List ℕ) (told : Told) 
 bytes_reached (Some name) bytes told free = ap (λ (found : Option (List ℕ)). (create_answer found told name bytes (refused told status.OutExists)).status) free
 bytes_reached None bytes told free = refl
 
-pub put_done : (out : Place) (keys : Keys) (told : Told) → IsDoneAnswer (answer (puts_keyset out keys) told) → PutOut out keys told
+pub put_done : (out : KeysetFile) (keys : Keys) (told : Told) → IsDoneAnswer (answer (puts_keyset out keys) told) → PutOut out keys told
 put_done out keys told done = by (nat_le (length bytes) keyset_limit) refl done
   where
     bytes : List ℕ

@@ -6,7 +6,7 @@ use Rattle.std.specs.Result.{result_ok}
 use Rattle.tink_spec.specs.Wire.{Payload, varint, eight, bytes, four, WireField, SpellsField, IsCutInto, cut}
 use Rattle.tink_spec.specs.Messages.{is_bytes, of_number, first_other, unless_at, at_place, joined, ◌>>=◌, later_bytes, last_bytes, number_in, bytes_in, text_in, embedded, embedded_all, merged}
 use Rattle.proto_wire.proofs.Cuts.{cut-spells}
-use Rattle.keyset_model.specs.declared.keyset.KeysetFault.{KeysetFault}
+use Rattle.keyset_model.specs.declared.keyset.KeysetRefusal.{KeysetRefusal}
 use Rattle.keyset_model.specs.declared.record.Record.{Record}
 use Rattle.keyset_json.specs.Reading.{reads_json}
 use Rattle.keyset_json.specs.Stored.{JsonIsShort, JsonIsStored}
@@ -155,7 +155,7 @@ keys-bytes (field ∷ these) all = keys_here HasByteValue field these _ refl (λ
 
 -- ---- keys
 
-unless_fault-ok : (fault : Option KeysetFault) (keys given : Keys) → without_fault (unless_fault fault keys) ≡ Ok given → keys ≡ given
+unless_fault-ok : (fault : Option KeysetRefusal) (keys given : Keys) → without_fault (unless_fault fault keys) ≡ Ok given → keys ≡ given
 unless_fault-ok (Some fault) keys given is = cc
 unless_fault-ok None keys given is = cc
 

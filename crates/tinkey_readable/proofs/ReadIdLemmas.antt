@@ -4,7 +4,7 @@ use Rattle.std.specs.List.{AllByRecursion, filter_map}
 use Rattle.std.specs.Result.{result_ok}
 use Rattle.tink_spec.specs.Wire.{WireField, cut}
 use Rattle.tink_spec.specs.Messages.{of_number, unless_at, at_place, ◌>>=◌, last_number, number_in, bytes_in, text_in, embedded, merged}
-use Rattle.keyset_model.specs.declared.keyset.KeysetFault.{KeysetFault}
+use Rattle.keyset_model.specs.declared.keyset.KeysetRefusal.{KeysetRefusal}
 use Rattle.keyset_model.specs.declared.record.Record.{Record}
 use Rattle.keyset_model.specs.Keyset.{Keys, fault_of, unless_fault}
 use Rattle.keyset_model.specs.Reading.{record_of, key_of, fault_at, keys_in, without_fault, well_formed, reads_binary}
@@ -54,7 +54,7 @@ keys-ids : (these : List WireField) → AllByRecursion (λ r. r.id < 2 ^ 32) (fi
 keys-ids [] = tt
 keys-ids (field ∷ these) = keys_here (λ r. r.id < 2 ^ 32) field these _ refl (key-id field) (keys-ids these)
 
-unless_fault-ok : (fault : Option KeysetFault) (keys given : Keys) → without_fault (unless_fault fault keys) ≡ Ok given → keys ≡ given
+unless_fault-ok : (fault : Option KeysetRefusal) (keys given : Keys) → without_fault (unless_fault fault keys) ≡ Ok given → keys ≡ given
 unless_fault-ok (Some fault) keys given is = cc
 unless_fault-ok None keys given is = cc
 

@@ -35,7 +35,7 @@ use Rattle.tinkey_readable.specs.Runs.{read_in}
 use Rattle.tinkey_plans.specs.Session.{finds_free, holds_session, saves, saves_as, session_plan}
 use Rattle.tinkey_plans.specs.Steps.{keyset_limit, keyset_in, with_made, within_limit, written_in}
 use Rattle.tinkey_plans.specs.Wrapping.{as_wrapping, is_json, makes_wrapped, wrapped_limit}
-use Rattle.tinkey_words.specs.Words.{Lock, Master, Place}
+use Rattle.tinkey_words.specs.Words.{Lock, Master, KeysetFile}
 use Rattle.tinkey_readable.specs.Lying.{GivesKeyset, MasterThere}
 use Rattle.tinkey_readable.proofs.LyingLemmas.{given_is_keyset, keyset_given}
 use Rattle.tinkey_readable.proofs.ReachLemmas.{keyset_reached}
@@ -108,7 +108,7 @@ saves_nothing table (Some over) (Some name) form keys told =
     within_nothing keyset_limit (λ plain. makes_wrapped keys over table form (makes_file name)) (written_in formats.Binary keys) told (text_nothing table over form keys name told)
 
 -- what the answer of the session itself says of the run
-talk_replied : SessionOpens → SessionDopens → SessionOpensPresent → SessionDopensPresent → SessionVerifies → TalkIsTurns → (table : Table) (master : Option Keys) (out : Place) (keys : Keys) (told : Told) (old : World) (s : Status) (new : World)
+talk_replied : SessionOpens → SessionDopens → SessionOpensPresent → SessionDopensPresent → SessionVerifies → TalkIsTurns → (table : Table) (master : Option Keys) (out : KeysetFile) (keys : Keys) (told : Told) (old : World) (s : Status) (new : World)
     → IsKeyset keys → IsStated s → IsAnswer (answer (exchanges (talk table keys) (saves table master out)) told) old s new → HasReplies table keys told old s new
 talk_replied opens dopens opens_present dopens_present verifies law table master out keys told old s new is stated a = by_stop x.stop refl a
   where
@@ -153,7 +153,7 @@ none_replied table keys told old s new undone other took = record {
 }
 
 -- behind a name that was looked up
-replied : SessionOpens → SessionDopens → SessionOpensPresent → SessionDopensPresent → SessionVerifies → TalkIsTurns → (table : Table) (master : Option Keys) (out : Place) (keys : Keys) (told : Told) (old : World) (s : Status) (new : World)
+replied : SessionOpens → SessionDopens → SessionOpensPresent → SessionDopensPresent → SessionVerifies → TalkIsTurns → (table : Table) (master : Option Keys) (out : KeysetFile) (keys : Keys) (told : Told) (old : World) (s : Status) (new : World)
     → IsKeyset keys → IsStated s → IsAnswer (answer (holds_session table master out keys) told) old s new → HasReplies table keys told old s new
 replied opens dopens opens_present dopens_present verifies law table master out keys told old s new is stated a = by_file out.file a
   where
@@ -169,7 +169,7 @@ replied opens dopens opens_present dopens_present verifies law table master out 
     by_file (Some name) a = by_found (map.get told.files name) a
 
 -- behind the text that is taken
-text_replied : SessionOpens → SessionDopens → SessionOpensPresent → SessionDopensPresent → SessionVerifies → TalkIsTurns → ReadKeysFit → (table : Table) (master : Option Keys) (name : List ℕ) (form : Format) (out : Place) (bytes : List ℕ) (keys : Keys) (told : Told) (old : World) (s : Status) (new : World)
+text_replied : SessionOpens → SessionDopens → SessionOpensPresent → SessionDopensPresent → SessionVerifies → TalkIsTurns → ReadKeysFit → (table : Table) (master : Option Keys) (name : List ℕ) (form : Format) (out : KeysetFile) (bytes : List ℕ) (keys : Keys) (told : Told) (old : World) (s : Status) (new : World)
     → map.get told.files name ≡ Some bytes → GivesKeyset table master form bytes keys → IsStated s
     → IsAnswer (answer (takes_under origins.Keyset table master (record { file = Some name; form = form }) (holds_session table master out)) told) old s new → HasReplies table keys told old s new
 text_replied opens dopens opens_present dopens_present verifies law fit table master name form out bytes keys told old s new there gives stated a = by (nat_le (length bytes) (limit_under master)) refl (rw there at a)
@@ -207,11 +207,11 @@ readable_answer opens dopens opens_present dopens_present verifies law fit table
       by told lock name form out keys gives.bytes gives.there gives.master gives.read gives.gives (subst (λ p. IsAnswer (answer p told) old s new) (ap (λ r. asked_plan table r words) is) (answers.over told tells stated));
 }
   where
-    text : (told : Told) (master : Option Keys) (name : List ℕ) (form : Format) (out : Place) (keys : Keys) (bytes : List ℕ) → map.get told.files name ≡ Some bytes → GivesKeyset table master form bytes keys
+    text : (told : Told) (master : Option Keys) (name : List ℕ) (form : Format) (out : KeysetFile) (keys : Keys) (bytes : List ℕ) → map.get told.files name ≡ Some bytes → GivesKeyset table master form bytes keys
         → IsAnswer (answer (takes_under origins.Keyset table master (record { file = Some name; form = form }) (holds_session table master out)) told) old s new → HasReplies table keys told old s new
     text told master name form out keys bytes there gives a = text_replied opens dopens opens_present dopens_present verifies law fit table master name form out bytes keys told old s new there gives stated a
 
-    by : (told : Told) (lock : Lock) (name : List ℕ) (form : Format) (out : Place) (keys : Keys) (bytes : List ℕ) → map.get told.files name ≡ Some bytes → (master : Option Keys) → MasterThere lock told master → GivesKeyset table master form bytes keys
+    by : (told : Told) (lock : Lock) (name : List ℕ) (form : Format) (out : KeysetFile) (keys : Keys) (bytes : List ℕ) → map.get told.files name ≡ Some bytes → (master : Option Keys) → MasterThere lock told master → GivesKeyset table master form bytes keys
         → IsAnswer (answer (session_plan table lock name form out) told) old s new → HasReplies table keys told old s new
     by told None name form out keys bytes there None read gives a = text told None name form out keys bytes there gives a
     by told None name form out keys bytes there (Some over) read gives a = absurd read

@@ -16,7 +16,7 @@ use Rattle.keyset_model.specs.Reading.{reads_binary}
 use Rattle.keyset_model.specs.Reading as binary
 use Rattle.keyset_model.specs.WellFormed.{FaultlessKeysets}
 use Rattle.keyset_model.specs.Writing.{BinaryBack, ReadKeysFit}
-use Rattle.keyset_model.specs.declared.keyset.KeysetFault.{KeysetFault}
+use Rattle.keyset_model.specs.declared.keyset.KeysetRefusal.{KeysetRefusal}
 use Rattle.keyset_model.specs.declared.record.Record.{Record}
 use Rattle.managers.specs.Standard.{standard_table}
 use Rattle.managers.specs.Table.{Table}
@@ -51,7 +51,7 @@ use Rattle.tinkey_plans.specs.Steps.{input_limit, sealed_limit, keyset_limit, ta
 use Rattle.tinkey_plans.specs.declared.sealer.Sealer.{Sealer}
 use Rattle.tinkey_plans.specs.declared.sealer.Unopened.{Unopened}
 use Rattle.tinkey_plans.specs.Using.{as_drawn, limit_for, made_bytes, with_opened, with_verified, works, puts_output}
-use Rattle.tinkey_words.specs.Words.{Asked, AskedEdit, AskedWork, Output, Place, create_keyset, edit_keyset, list_keyset, key_of, as_taken, in_clear, under, convert_keyset, list_key_templates, use_keyset, use_envelope, seal_stream, open_stream, reseal_stream, open_range, self_test, session, to_seal, to_dseal, to_tag, primitive_for, help, version}
+use Rattle.tinkey_words.specs.Words.{Asked, AskedEdit, AskedWork, Output, KeysetFile, create_keyset, edit_keyset, list_keyset, key_of, as_taken, in_clear, under, convert_keyset, list_key_templates, use_keyset, use_envelope, seal_stream, open_stream, reseal_stream, open_range, self_test, session, to_seal, to_dseal, to_tag, primitive_for, help, version}
 use Rattle.seal_wrap.specs.Sealings.{DsealingsFit, SealingsFit}
 use Rattle.tinkey_readable.proofs.ReachLemmas.{load_done, load_within, IsDoneAnswer, UsedKeys, behind, found_edit, made_done, put_done, taken_done, taken_within, used_done, used_reached, used_within}
 use Rattle.tinkey_readable.proofs.PutLemmas.{made_is, made_put, made_written, worked}
@@ -59,7 +59,7 @@ use Rattle.tinkey_readable.proofs.WrittenBytesLemmas.{written_bytes}
 
 -- ---- what is read is a keyset
 
-of_built : (keys got : Keys) (o : Option KeysetFault) → fault_of got ≡ o → unless_fault o got ≡ Ok keys → fault_of keys ≡ None
+of_built : (keys got : Keys) (o : Option KeysetRefusal) → fault_of got ≡ o → unless_fault o got ≡ Ok keys → fault_of keys ≡ None
 of_built keys got None is e = let same : got ≡ keys = cc in ap fault_of (sym same) ∙ is
 of_built keys got (Some fault) is e = absurd (cc)
 
@@ -67,7 +67,7 @@ pub read_binary_keyset : (bytes : List ℕ) (keys : Keys) → reads_binary bytes
 unfolding reads_binary
 read_binary_keyset bytes keys e = of_read _ e
   where
-    of_checked : (got : Keys) (r : Result Keys KeysetFault) → built got ≡ r → binary.without_fault r ≡ Ok keys → fault_of keys ≡ None
+    of_checked : (got : Keys) (r : Result Keys KeysetRefusal) → built got ≡ r → binary.without_fault r ≡ Ok keys → fault_of keys ≡ None
     of_checked got (Ok k) is e = let same : k ≡ keys = cc in of_built keys got (fault_of got) refl (is ∙ ap Ok same)
     of_checked got (Err fault) is e = absurd (cc)
 
@@ -79,7 +79,7 @@ read_json_keyset : (bytes : List ℕ) (keys : Keys) → reads_json bytes ≡ Ok 
 unfolding reads_json
 read_json_keyset bytes keys e = of_read _ e
   where
-    of_checked : (got : Keys) (r : Result Keys KeysetFault) → built got ≡ r → json.without_fault r ≡ Ok keys → fault_of keys ≡ None
+    of_checked : (got : Keys) (r : Result Keys KeysetRefusal) → built got ≡ r → json.without_fault r ≡ Ok keys → fault_of keys ≡ None
     of_checked got (Ok k) is e = let same : k ≡ keys = cc in of_built keys got (fault_of got) refl (is ∙ ap Ok same)
     of_checked got (Err fault) is e = absurd (cc)
 
@@ -151,7 +151,7 @@ kept law binary json new form after found same put is within faultless stored = 
 }
 
 -- what a run did, and so what keyset was written
-given : FaultlessKeysets → BinaryBack → JsonBack → (table : Table) (run : Run) (old new : Keys) (out : Place) (after : Written) → out.form ≡ after.form
+given : FaultlessKeysets → BinaryBack → JsonBack → (table : Table) (run : Run) (old new : Keys) (out : KeysetFile) (after : Written) → out.form ≡ after.form
     → bytes_at out.file (answer (command_plan table run.asked) run.told).files (answer (command_plan table run.asked) run.told).output ≡ Some after.bytes
     → bytes_at out.file (answer (command_plan table run.asked) run.told).files (answer (command_plan table run.asked) run.told).output ≡ Some (written_in out.form new)
     → length (written_in out.form new) ≤ keyset_limit → fault_of new ≡ None → AreStored new → Does table run.told old new run.asked → Gives table run old after
@@ -163,7 +163,7 @@ behind_random : (file : Option (List ℕ)) (told : Told) → (behind file told).
 behind_random (Some name) told = refl
 behind_random None told = refl
 
-edit_step : FaultlessKeysets → BinaryBack → JsonBack → EditsKeepKeysets → EditsKeepStored → (table : Table) (edit : AskedEdit) (in' out : Place) (told : Told) (before after : Written) (old : Keys)
+edit_step : FaultlessKeysets → BinaryBack → JsonBack → EditsKeepKeysets → EditsKeepStored → (table : Table) (edit : AskedEdit) (in' out : KeysetFile) (told : Told) (before after : Written) (old : Keys)
     → IsDoneAnswer (answer (command_plan table (edit_keyset None edit in' out)) told)
     → in'.form ≡ before.form → bytes_at in'.file told.files told.input ≡ Some before.bytes → out.form ≡ after.form
     → bytes_at out.file (answer (command_plan table (edit_keyset None edit in' out)) told).files (answer (command_plan table (edit_keyset None edit in' out)) told).output ≡ Some after.bytes
@@ -188,7 +188,7 @@ edit_step law binary json keeps keeps_stored table edit in' out told before afte
     (keeps_stored old m.new f.edit told.random m.drawn template random stored gave m.made)
     (record { edit = f.edit; is = f.is; stepped = m.drawn; steps = gave; accepted = m.made })
 
-convert_step : FaultlessKeysets → BinaryBack → JsonBack → (table : Table) (in' out : Place) (told : Told) (before after : Written) (old : Keys)
+convert_step : FaultlessKeysets → BinaryBack → JsonBack → (table : Table) (in' out : KeysetFile) (told : Told) (before after : Written) (old : Keys)
     → IsDoneAnswer (answer (command_plan table (convert_keyset None as_taken in' out)) told)
     → in'.form ≡ before.form → bytes_at in'.file told.files told.input ≡ Some before.bytes → out.form ≡ after.form
     → bytes_at out.file (answer (command_plan table (convert_keyset None as_taken in' out)) told).files (answer (command_plan table (convert_keyset None as_taken in' out)) told).output ≡ Some after.bytes
@@ -203,7 +203,7 @@ convert_step law binary json table in' out told before after old done form read 
     (read_faultless before old is) stored refl
 
 -- the answer of a session over its whole input that is Done, and what goes on
-pub record SessionDone (table : Table) (master : Option Keys) (out : Place) (old : Keys) (told : Told) : Type 0 where
+pub record SessionDone (table : Table) (master : Option Keys) (out : KeysetFile) (old : Keys) (told : Told) : Type 0 where
   pub last : Remains
   pub is : remains table old (asked_in told.input) told.random ≡ Some last
   pub short : AllByRecursion (λ line. length line ≤ line_limit) (lines_of told.input)
@@ -212,7 +212,7 @@ pub record SessionDone (table : Table) (master : Option Keys) (out : Place) (old
   pub goes_on : (answer (exchanges (talk table old) (saves table master out)) told).files ≡ (answer (saves table master out last.keys) left).files
   pub done : IsDoneAnswer (answer (saves table master out last.keys) left)
 
-pub talk_done : TalkIsTurns → (table : Table) (master : Option Keys) (out : Place) (old : Keys) (told : Told) → IsDoneAnswer (answer (exchanges (talk table old) (saves table master out)) told) → SessionDone table master out old told
+pub talk_done : TalkIsTurns → (table : Table) (master : Option Keys) (out : KeysetFile) (old : Keys) (told : Told) → IsDoneAnswer (answer (exchanges (talk table old) (saves table master out)) told) → SessionDone table master out old told
 talk_done law table master out old told done = by_stop x.stop refl done
   where
     x : Talk
@@ -251,11 +251,11 @@ free_done (Some name) next told done = by (map.get told.files name) done
     by (Some there) done = absurd (cc)
 
 -- what a session saved is within the limit, and is there
-record SavedKeyset (table : Table) (out : Place) (keys : Keys) (told : Told) (file : List ℕ) : Type 0 where
+record SavedKeyset (table : Table) (out : KeysetFile) (keys : Keys) (told : Told) (file : List ℕ) : Type 0 where
   within : length (written_in out.form keys) ≤ keyset_limit
   there : map.get (answer (saves table None out keys) told).files file ≡ Some (written_in out.form keys)
 
-saved : (table : Table) (out : Place) (keys : Keys) (told : Told) (file : List ℕ) → out.file ≡ Some file → IsDoneAnswer (answer (saves table None out keys) told) → SavedKeyset table out keys told file
+saved : (table : Table) (out : KeysetFile) (keys : Keys) (told : Told) (file : List ℕ) → out.file ≡ Some file → IsDoneAnswer (answer (saves table None out keys) told) → SavedKeyset table out keys told file
 saved table out keys told file is done = by out.file refl is done
   where
     by : (f : Option (List ℕ)) → out.file ≡ f → f ≡ Some file → IsDoneAnswer (answer (saves_as table None f out.form keys) told) → SavedKeyset table out keys told file
@@ -268,7 +268,7 @@ saved table out keys told file is done = by out.file refl is done
               ∙ subst (λ n. map.get (answer (saves_as table None (Some other) out.form keys) told).files n ≡ Some (written_in out.form keys)) (same_Some _ _ is) p.there;
         }
 
-session_step : FaultlessKeysets → BinaryBack → JsonBack → TalkIsTurns → SessionIsEdits → EditedIsKeyset → SessionsKeepStored → (table : Table) (name : List ℕ) (form : Format) (out : Place) (file : List ℕ) (told : Told) (before after : Written) (old : Keys)
+session_step : FaultlessKeysets → BinaryBack → JsonBack → TalkIsTurns → SessionIsEdits → EditedIsKeyset → SessionsKeepStored → (table : Table) (name : List ℕ) (form : Format) (out : KeysetFile) (file : List ℕ) (told : Told) (before after : Written) (old : Keys)
     → out.file ≡ Some file → IsDoneAnswer (answer (command_plan table (session None name form out)) told)
     → form ≡ before.form → map.get told.files name ≡ Some before.bytes → out.form ≡ after.form
     → bytes_at out.file (answer (command_plan table (session None name form out)) told).files (answer (command_plan table (session None name form out)) told).output ≡ Some after.bytes

@@ -15,7 +15,7 @@ use Rattle.tinkey_plans.specs.Laws.{CommandsAreWhole, IsSession, IsStream}
 use Rattle.tinkey_plans.specs.Plan.{Answer, Plan, Told, allocates, answer, collect_answer, collects, create_answer, creates, draw_answer, draws, ends, exchanges, load_answer, loads, look_answer, looks, pumps, range_answer, ranges, reads_all, reads_front, refused, writes}
 use Rattle.tinkey_plans.specs.Promises.{IsWhole}
 use Rattle.tinkey_plans.specs.Streaming.{begins_file, opens_stream, reseals_stream, seals_stream}
-use Rattle.tinkey_plans.specs.Stretch.{Opened, Stretch, stretch_in}
+use Rattle.tinkey_plans.specs.FileRange.{Opened, FileRange, range_in}
 use Rattle.tinkey_words.specs.declared.words.rows.Format.{Format}
 use Rattle.tinkey_words.specs.Words.{Asked, Lock, open_stream, reseal_stream, seal_stream}
 use Rattle.tinkey_readable.specs.DoneWhere.{StreamOpens, StreamReseals, StreamSeals, StreamsDone}
@@ -47,10 +47,10 @@ loaded files (Some bytes) limit missing long next one two all = by (nat_le (leng
     by true = all bytes
     by false = inr two
 
-ranged : (files : Files) (found : Option (List ℕ)) (stretch : Stretch) (missing : Answer) (next : Opened → Answer) → IsKept files missing → ((opened : Opened) → IsDoneOrKept files (next opened))
-    → IsDoneOrKept files (range_answer found stretch missing next)
-ranged files None stretch missing next one all = inr one
-ranged files (Some bytes) stretch missing next one all = all (stretch_in stretch bytes)
+ranged : (files : Files) (found : Option (List ℕ)) (range : FileRange) (missing : Answer) (next : Opened → Answer) → IsKept files missing → ((opened : Opened) → IsDoneOrKept files (next opened))
+    → IsDoneOrKept files (range_answer found range missing next)
+ranged files None range missing next one all = inr one
+ranged files (Some bytes) range missing next one all = all (range_in range bytes)
 
 read : (files : Files) (b : Bool) (next long : Answer) → IsDoneOrKept files next → IsKept files long → IsDoneOrKept files (if b then next else long)
 read files true next long one other = one
@@ -76,8 +76,8 @@ whole_keeps (looks name taken stated next) told is = looked told.files (map.get 
 whole_keeps (allocates next) told is = whole_keeps next told is
 whole_keeps (loads name limit missing long a l next) told is =
     loaded told.files (map.get told.files name) limit (refused told missing) (refused told long) (λ bytes. answer (next bytes) told) (refl, refl) (refl, refl) (λ bytes. whole_keeps (next bytes) told (is bytes))
-whole_keeps (ranges stretch missing a next) told is =
-    ranged told.files (map.get told.files stretch.name) stretch (refused told missing) (λ opened. answer (next opened) told) (refl, refl) (λ opened. whole_keeps (next opened) told (is opened))
+whole_keeps (ranges range missing a next) told is =
+    ranged told.files (map.get told.files range.name) range (refused told missing) (λ opened. answer (next opened) told) (refl, refl) (λ opened. whole_keeps (next opened) told (is opened))
 whole_keeps (reads_all limit long stated next) told is =
     read told.files (nat_le (length told.input) limit) (answer (next told.input) (record told { input = [] })) (record (refused told long) { input = Some (drop (limit + 1) told.input) }) (whole_keeps (next told.input) (record told { input = [] }) (is told.input)) (refl, refl)
 whole_keeps (reads_front size next) told is = whole_keeps (next (take size told.input)) (record told { input = drop size told.input }) (is (take size told.input))

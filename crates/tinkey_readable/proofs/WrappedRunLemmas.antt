@@ -33,7 +33,7 @@ use Rattle.tinkey_plans.specs.Plan.{Answer, Plan, Told, answer, draw_answer, end
 use Rattle.tinkey_plans.specs.Steps.{keyset_limit, origin_of, puts, puts_keyset, takes_bytes, takes_keyset, with_made, within_limit, writes_keyset, written_in}
 use Rattle.tinkey_plans.specs.Handles.{handles, unless_unfit}
 use Rattle.tinkey_plans.specs.Wrapping.{as_wrapping, is_json, is_keyset, keyset_sealer, makes_wrapped, takes_wrapped, unwraps, with_unwrapped, wrapped_limit}
-use Rattle.tinkey_words.specs.Words.{Asked, Place, unwrap_keyset, wrap_keyset}
+use Rattle.tinkey_words.specs.Words.{Asked, KeysetFile, unwrap_keyset, wrap_keyset}
 use Rattle.tinkey_words.specs.declared.words.rows.Format.{Format}
 use Rattle.tinkey_words.specs.declared.words.rows.Format.TheVariants as formats
 use Rattle.tinkey_readable.specs.Runs.{DrawsBytes, HoldsBytes, IsFree, IsWithinIn, Keeps, LiesIn, ReadIsStored, Run, Unwraps, WrapStep, Wraps, Written, bytes_at, keyset_of, read_in}
@@ -114,10 +114,10 @@ pub record WasWrapped (out : Format) (told : Told) (master before text : Written
   pub short : length text.bytes ≤ wrapped_limit
 
 -- the steps behind the master, and behind the keyset
-abbrev behind_master : Place → Place → Keys → Plan
+abbrev behind_master : KeysetFile → KeysetFile → Keys → Plan
 behind_master in' out old = takes_keyset in' (λ keys. writes_keyset formats.Binary keys (λ plain. makes_wrapped keys old standard_table out.form (puts out.file)))
 
-wrap_done : (name : List ℕ) (form : Format) (in' out : Place) (told : Told) (master before text : Written) (old keys : Keys) → form ≡ master.form → LiesIn master told name → keyset_of master ≡ Some old → keyset_of before ≡ Some keys
+wrap_done : (name : List ℕ) (form : Format) (in' out : KeysetFile) (told : Told) (master before text : Written) (old keys : Keys) → form ≡ master.form → LiesIn master told name → keyset_of master ≡ Some old → keyset_of before ≡ Some keys
     → IsDoneAnswer (answer (command_plan standard_table (wrap_keyset name form in' out)) told) → in'.form ≡ before.form → bytes_at in'.file told.files told.input ≡ Some before.bytes → out.form ≡ text.form
     → bytes_at out.file (answer (command_plan standard_table (wrap_keyset name form in' out)) told).files (answer (command_plan standard_table (wrap_keyset name form in' out)) told).output ≡ Some text.bytes
     → WasWrapped out.form told master before text old keys
@@ -188,7 +188,7 @@ unwrapped law binary json stored back run master before text old new keys r pref
 
 -- ---- unwrapping
 
-abbrev pub opens_plan : Place → Place → Keys → Plan
+abbrev pub opens_plan : KeysetFile → KeysetFile → Keys → Plan
 opens_plan in' out new = takes_wrapped in'.file (λ text. unwraps (origin_of origins.In in'.file) new standard_table in'.form text (puts_keyset out))
 
 pub given_keyset : (from : Origin) (new : Keys) (form : Format) (text : List ℕ) (keys : Keys) (next : Keys → Plan) (told : Told) → unwrap_of new standard_table text (is_json form) ≡ Ok keys → answer (unwraps from new standard_table form text next) told ≡ answer (next keys) told
@@ -227,7 +227,7 @@ wrap_step law binary json stored back wrap unwrap before after keys goes random 
 
 -- ---- what was wrapped can be unwrapped
 
-pub put_reached : (out : Place) (keys : Keys) (told : Told) → length (written_in out.form keys) ≤ keyset_limit → IsFree out.file told.files → IsDoneAnswer (answer (puts_keyset out keys) told)
+pub put_reached : (out : KeysetFile) (keys : Keys) (told : Told) → length (written_in out.form keys) ≤ keyset_limit → IsFree out.file told.files → IsDoneAnswer (answer (puts_keyset out keys) told)
 put_reached out keys told within free =
     ap (λ (b : Bool). (answer (if b then puts out.file bytes else ends status.KeysetTooLong tt) told).status) (let e : nat_le (length bytes) keyset_limit ≡ true = grind (arith, nat_tests, within) in e)
     ∙ bytes_reached out.file bytes told free

@@ -38,7 +38,7 @@ use Rattle.tinkey_plans.specs.Using.{limit_for}
 use Rattle.tinkey_words.specs.declared.words.rows.Format.{Format}
 use Rattle.tinkey_words.specs.declared.words.rows.SealedForm.{SealedForm}
 use Rattle.tinkey_words.specs.declared.words.rows.SealedForm.TheVariants as forms
-use Rattle.tinkey_words.specs.Words.{AskedEdit, AskedEnvelope, AskedRange, AskedWork, Lock, NewLock, Output, Place, convert_keyset, create_keyset, edit_keyset, key_of, list_keyset, open_range, open_stream, reseal_stream, seal_stream, session, to_eopen, to_ereseal, to_eseal, use_envelope, use_keyset, to_seal, to_open, to_dseal, to_dopen, to_reseal, to_dreseal, to_tag, to_verify, to_derive, primitive_for}
+use Rattle.tinkey_words.specs.Words.{AskedEdit, AskedEnvelope, AskedRange, AskedWork, Lock, NewLock, Output, KeysetFile, convert_keyset, create_keyset, edit_keyset, key_of, list_keyset, open_range, open_stream, reseal_stream, seal_stream, session, to_eopen, to_ereseal, to_eseal, use_envelope, use_keyset, to_seal, to_open, to_dseal, to_dopen, to_reseal, to_dreseal, to_tag, to_verify, to_derive, primitive_for}
 use Rattle.tinkey_readable.specs.Lying.{FitsThere, LiesBehind, LiesThere, OpensLock, OpensNewLock}
 use Rattle.tinkey_readable.specs.Runs.{IsCreated, IsEdit, IsFree}
 
@@ -47,7 +47,7 @@ use Rattle.tinkey_readable.specs.Runs.{IsCreated, IsEdit, IsFree}
 -- The lock opens, and a keyset lies there; the edit that is asked for is accepted, of a template of the table
 -- where it has one, with random bytes that suffice; and the keyset that it makes fits there, with a name that
 -- is free. What it draws comes before the IV under which that keyset is sealed.
-pub record EditGoes (table : Table) (lock : Lock) (asked : AskedEdit) (in' out : Place) (told : Told)
+pub record EditGoes (table : Table) (lock : Lock) (asked : AskedEdit) (in' out : KeysetFile) (told : Told)
     : Type 0 where
   pub master : Option Keys
   pub opens : OpensLock table lock told master
@@ -60,7 +60,7 @@ pub record EditGoes (table : Table) (lock : Lock) (asked : AskedEdit) (in' out :
 
 -- The template is of the table, and the lock opens; the random bytes suffice for an id and a key; and the
 -- keyset fits there, with a name that is free.
-pub record CreateGoes (table : Table) (lock : Lock) (template : List ℕ) (out : Place) (told : Told)
+pub record CreateGoes (table : Table) (lock : Lock) (template : List ℕ) (out : KeysetFile) (told : Told)
     : Type 0 where
   pub master : Option Keys
   pub opens : OpensLock table lock told master
@@ -71,7 +71,7 @@ pub record CreateGoes (table : Table) (lock : Lock) (template : List ℕ) (out :
 
 -- Both locks open, and a keyset lies there; in the form and under the master that are asked for it fits, with
 -- a name that is free.
-pub record ConvertGoes (table : Table) (lock : Lock) (new : NewLock) (in' out : Place) (told : Told)
+pub record ConvertGoes (table : Table) (lock : Lock) (new : NewLock) (in' out : KeysetFile) (told : Told)
     : Type 0 where
   pub taken : Option Keys
   pub opens : OpensLock table lock told taken
@@ -85,16 +85,16 @@ pub record ConvertGoes (table : Table) (lock : Lock) (new : NewLock) (in' out : 
 -- A keyset is edited, created, converted and listed exactly where that is so. One is wrapped, and unwrapped,
 -- where it is converted so.
 pub record EditsDone : Type 0 where
-  pub edited : (table : Table) (lock : Lock) (asked : AskedEdit) (in' out : Place) (told : Told)
+  pub edited : (table : Table) (lock : Lock) (asked : AskedEdit) (in' out : KeysetFile) (told : Told)
       → ((answer (command_plan table (edit_keyset lock asked in' out)) told).status ≡ status.Done)
       ↔ EditGoes table lock asked in' out told
-  pub created : (table : Table) (lock : Lock) (template : List ℕ) (out : Place) (told : Told)
+  pub created : (table : Table) (lock : Lock) (template : List ℕ) (out : KeysetFile) (told : Told)
       → ((answer (command_plan table (create_keyset lock template out)) told).status ≡ status.Done)
       ↔ CreateGoes table lock template out told
-  pub converted : (table : Table) (lock : Lock) (new : NewLock) (in' out : Place) (told : Told)
+  pub converted : (table : Table) (lock : Lock) (new : NewLock) (in' out : KeysetFile) (told : Told)
       → ((answer (command_plan table (convert_keyset lock new in' out)) told).status ≡ status.Done)
       ↔ ConvertGoes table lock new in' out told
-  pub listed : (table : Table) (lock : Lock) (in' : Place) (told : Told)
+  pub listed : (table : Table) (lock : Lock) (in' : KeysetFile) (told : Told)
       → ((answer (command_plan table (list_keyset lock in')) told).status ≡ status.Done)
       ↔ ((keys : Keys) × LiesBehind table lock in' told keys)
 
@@ -237,7 +237,7 @@ IsSavedWithin table master (Some name) form keys random = FitsThere table master
 -- The lock opens, and a keyset lies in the file of this name; the name of a new file is free; the lines and
 -- their number are within their limits and the random bytes suffice for them, so that the session goes on to
 -- the end of its input; and the last keyset can be saved, of the random bytes that are left.
-pub record SessionGoes (table : Table) (lock : Lock) (name : List ℕ) (form : Format) (out : Place)
+pub record SessionGoes (table : Table) (lock : Lock) (name : List ℕ) (form : Format) (out : KeysetFile)
     (told : Told) : Type 0 where
   pub master : Option Keys
   pub opens : OpensLock table lock told master
@@ -250,7 +250,7 @@ pub record SessionGoes (table : Table) (lock : Lock) (name : List ℕ) (form : F
 
 -- a session is answered Done exactly where that is so
 abbrev pub SessionsDone : Type 0
-SessionsDone = (table : Table) (lock : Lock) (name : List ℕ) (form : Format) (out : Place) (told : Told)
+SessionsDone = (table : Table) (lock : Lock) (name : List ℕ) (form : Format) (out : KeysetFile) (told : Told)
     → ((answer (command_plan table (session lock name form out)) told).status ≡ status.Done)
     ↔ SessionGoes table lock name form out told
 

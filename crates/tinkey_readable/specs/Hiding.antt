@@ -10,7 +10,7 @@ use Rattle.tinkey_plans.specs.Plan.{Told, answer}
 use Rattle.tinkey_plans.specs.Status.{Reports}
 use Rattle.tinkey_plans.specs.declared.status.Status.{Status}
 use Rattle.tinkey_readable.specs.Lying.{LiesBehind}
-use Rattle.tinkey_words.specs.Words.{Lock, Place, list_keyset}
+use Rattle.tinkey_words.specs.Words.{Lock, KeysetFile, list_keyset}
 
 -- Two keysets that differ in key messages and key material types alone, which `without_keys` clears, have
 -- one listing.
@@ -21,7 +21,7 @@ ListingHidesKeys = (keys other : Keys) → without_keys keys ≡ without_keys ot
 -- So list-keyset puts out the same of them, wherever they lie and in whichever form, each in clear or behind
 -- its own lock.
 abbrev pub ListedAlike : Type 0
-ListedAlike = (table : Table) (lock behind : Lock) (in' from : Place) (told other : Told) (one two : Keys)
+ListedAlike = (table : Table) (lock behind : Lock) (in' from : KeysetFile) (told other : Told) (one two : Keys)
     → LiesBehind table lock in' told one → LiesBehind table behind from other two
     → without_keys one ≡ without_keys two
     → ((answer (command_plan table (list_keyset lock in')) told).output

@@ -28,7 +28,7 @@ use Rattle.tinkey_plans.specs.declared.status.Status.{Status}
 use Rattle.tinkey_plans.specs.declared.status.Status.TheVariants as status
 use Rattle.tinkey_readable.specs.LockedRuns.{GivesUnder}
 use Rattle.tinkey_readable.specs.Runs.{DrawsBytes, Handing, HoldsBytes, IsCreated, LiesIn, LockedHanding, Run, StillOpens, Written, bytes_at, hands_on, hands_under, keyset_of}
-use Rattle.tinkey_words.specs.Words.{Asked, AskedEdit, Master, Place, create_keyset, edit_keyset, session, unwrap_keyset, words_of, wrap_keyset}
+use Rattle.tinkey_words.specs.Words.{Asked, AskedEdit, Master, KeysetFile, create_keyset, edit_keyset, session, unwrap_keyset, words_of, wrap_keyset}
 
 -- ---- runs as they took place
 
@@ -211,7 +211,7 @@ pub record CreatesFirst (run : Run) (template : List ℕ) (master text : Written
   pub lock : Master
   pub form : lock.form ≡ master.form
   pub lies : LiesIn master run.told lock.file
-  pub out : Place
+  pub out : KeysetFile
   pub asked : run.asked ≡ create_keyset (Some lock) template out
   pub old : World
   pub new : World
@@ -282,7 +282,7 @@ DataStaysByCommands = (events : List Event) (before after : Written) (old : Keys
 -- has it, ENABLED and alone under its prefix.
 abbrev pub GivenBackByEnable : Type 0
 GivenBackByEnable = (run : Run) (before after : Written) (old : Keys) (r : Record)
-    (prefix : List ℕ) (in' out : Place) → run.asked ≡ edit_keyset None (Enable r.id) in' out
+    (prefix : List ℕ) (in' out : KeysetFile) → run.asked ≡ edit_keyset None (Enable r.id) in' out
     → PassesOn run before after → DrawsBytes run → HoldsBytes before
     → keyset_of before ≡ Some old → HasDistinctIds old
     → prefix_of r ≡ Some prefix → HasData r old
@@ -294,7 +294,7 @@ GivenBackByEnable = (run : Run) (before after : Written) (old : Keys) (r : Recor
 abbrev pub GivenBackUnderLock : Type 0
 GivenBackUnderLock = (first : Run) (locked : List Run) (run : Run)
     (opening text put after later : Written) (old : Keys) (r : Record) (prefix : List ℕ)
-    (lock : Master) (in' out : Place) (course : CourseUnder first locked opening text old)
+    (lock : Master) (in' out : KeysetFile) (course : CourseUnder first locked opening text old)
     → run.asked ≡ edit_keyset (Some lock) (Enable r.id) in' out
     → PassesUnder run opening text put after → DrawsBytes run
     → HasDistinctIds old → prefix_of r ≡ Some prefix → HasData r old
@@ -304,7 +304,7 @@ GivenBackUnderLock = (first : Run) (locked : List Run) (run : Run)
 
 -- What a run of create-keyset put out is a keyset whose ids are distinct.
 abbrev pub CreatedIdsAreDistinct : Type 0
-CreatedIdsAreDistinct = (run : Run) (template : List ℕ) (out : Place) (old new : World)
+CreatedIdsAreDistinct = (run : Run) (template : List ℕ) (out : KeysetFile) (old new : World)
     (after : Written) → run.asked ≡ create_keyset None template out → TookPlace run old status.Done new
     → DrawsBytes run → out.form ≡ after.form → IsPut out.file old new after.bytes
     → (keys : Keys) × (keyset_of after ≡ Some keys) × HasDistinctIds keys

@@ -19,7 +19,7 @@ use Rattle.tinkey_plans.specs.Commands.{command_plan}
 use Rattle.tinkey_plans.specs.Plan.{Answer, Told, answer}
 use Rattle.tinkey_plans.specs.Wrapping.{is_json}
 use Rattle.tinkey_words.specs.declared.words.rows.Format.{Format}
-use Rattle.tinkey_words.specs.Words.{Asked, Master, Place, as_taken, convert_keyset, create_keyset, edit_keyset, session, under}
+use Rattle.tinkey_words.specs.Words.{Asked, Master, KeysetFile, as_taken, convert_keyset, create_keyset, edit_keyset, session, under}
 use Rattle.tinkey_readable.specs.Lying.{LiesBehind, OpensMaster}
 use Rattle.tinkey_readable.specs.Runs.{IsCreated, IsEdit}
 
@@ -39,7 +39,7 @@ PutsAlone None told text a = (a.output ≡ text) × (a.files ≡ told.files)
 PutsAlone (Some name) told text a = (a.output ≡ []) × (a.files ≡ map.insert told.files name text)
 
 -- What a run puts out is such a text alone, of this keyset under the master that lies in the file of the lock.
-pub record PutsSealed (table : Table) (lock : Master) (out : Place) (told : Told) (keys : Keys)
+pub record PutsSealed (table : Table) (lock : Master) (out : KeysetFile) (told : Told) (keys : Keys)
     (a : Answer) : Type 0 where
   pub over : Keys
   pub opens : OpensMaster table lock told over
@@ -50,7 +50,7 @@ pub record PutsSealed (table : Table) (lock : Master) (out : Place) (told : Told
 -- the master that a command puts a keyset under, and the place that it puts it
 pub record SealedPut : Type 0 where
   pub lock : Master
-  pub out : Place
+  pub out : KeysetFile
 
 -- the commands that put a keyset under a master, but for the session
 abbrev pub sealed_put : Asked → Option SealedPut

@@ -23,7 +23,7 @@ use Rattle.tinkey_plans.specs.Plan.{Told}
 use Rattle.tinkey_plans.specs.Steps.{keyset_limit, written_in}
 use Rattle.tinkey_plans.specs.Wrapping.{is_json, wrapped_limit}
 use Rattle.tinkey_words.specs.declared.words.rows.Format.{Format}
-use Rattle.tinkey_words.specs.Words.{Lock, Master, NewLock, Place, as_taken, in_clear, under}
+use Rattle.tinkey_words.specs.Words.{Lock, Master, NewLock, KeysetFile, as_taken, in_clear, under}
 use Rattle.tinkey_readable.specs.Runs.{LiesIn, Written, bytes_at, keyset_of, read_in}
 
 -- these bytes are that keyset, in this form, or they give it under a master
@@ -33,7 +33,7 @@ GivesKeyset table (Some over) form bytes keys = unwrap_of over table bytes (is_j
 
 -- A keyset lies in the file of this place, or where none is named, in the input, in clear or under a master:
 -- it is there, within its limit, and well formed.
-pub record LiesThere (table : Table) (master : Option Keys) (place : Place) (told : Told) (keys : Keys)
+pub record LiesThere (table : Table) (master : Option Keys) (place : KeysetFile) (told : Told) (keys : Keys)
     : Type 0 where
   pub bytes : List ℕ
   pub there : bytes_at place.file told.files told.input ≡ Some bytes
@@ -59,7 +59,7 @@ OpensNewLock table in_clear taken told put = None ≡ put
 OpensNewLock table (under master) taken told put = OpensLock table (Some master) told put
 
 -- a keyset lies behind a lock, or without one in clear
-pub record LiesBehind (table : Table) (lock : Lock) (place : Place) (told : Told) (keys : Keys)
+pub record LiesBehind (table : Table) (lock : Lock) (place : KeysetFile) (told : Told) (keys : Keys)
     : Type 0 where
   pub master : Option Keys
   pub opens : OpensLock table lock told master

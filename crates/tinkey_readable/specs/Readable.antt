@@ -23,7 +23,7 @@ use Rattle.tinkey_plans.specs.Plan.{Told, IsStated, allocates}
 use Rattle.tinkey_plans.specs.Commands.{plan_of}
 use Rattle.tinkey_plans.specs.Promises.{Answers, Tells}
 use Rattle.tinkey_readable.specs.Lying.{FileGives}
-use Rattle.tinkey_words.specs.Words.{Lock, Place, session, words_of}
+use Rattle.tinkey_words.specs.Words.{Lock, KeysetFile, session, words_of}
 
 -- two of these turns, the second one later
 pub record AreAmong (ts : List Turn) (s t : Turn) : Type 0 where
@@ -83,7 +83,7 @@ pub record HasReplies (table : Table) (keys : Keys) (told : Told) (old : World) 
 -- under the keyset in the file of the lock
 pub record IsReadable (table : Table) (words : List (List ℕ)) (old : World) (s : Status)
     (new : World) : Type 0 where
-  pub replies : (told : Told) (lock : Lock) (name : List ℕ) (form : Format) (out : Place) (keys : Keys)
+  pub replies : (told : Told) (lock : Lock) (name : List ℕ) (form : Format) (out : KeysetFile) (keys : Keys)
       → Tells old told → words_of words ≡ Ok (session lock name form out)
       → FileGives table lock name form told keys
       → HasReplies table keys told old s new

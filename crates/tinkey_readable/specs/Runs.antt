@@ -36,7 +36,7 @@ use Rattle.tinkey_plans.specs.Commands.{command_plan}
 use Rattle.tinkey_plans.specs.Plan.{Answer, Told, answer}
 use Rattle.tinkey_plans.specs.Steps.{keyset_limit, written_in}
 use Rattle.tinkey_plans.specs.Using.{hex_line}
-use Rattle.tinkey_words.specs.Words.{Asked, AskedEdit, AskedWork, Master, Output, Place, as_taken, convert_keyset, create_keyset, edit_keyset, session, under, use_keyset, wrap_keyset, unwrap_keyset, to_seal, to_open, to_dseal, to_dopen, to_tag, to_verify}
+use Rattle.tinkey_words.specs.Words.{Asked, AskedEdit, AskedWork, Master, Output, KeysetFile, as_taken, convert_keyset, create_keyset, edit_keyset, session, under, use_keyset, wrap_keyset, unwrap_keyset, to_seal, to_open, to_dseal, to_dopen, to_tag, to_verify}
 
 -- the keyset that these bytes are, in this form
 abbrev pub read_in : Format → List ℕ → Option Keys
@@ -69,11 +69,11 @@ bytes_at None files stream = Some stream
 
 -- where a keyset is taken from, and where one is put
 pub record Handing : Type 0 where
-  pub taken : Place
-  pub put : Place
+  pub taken : KeysetFile
+  pub put : KeysetFile
 
 -- a session puts a keyset where a file is named for it
-abbrev pub session_handing : (name : List ℕ) → Format → Place → (file : Option (List ℕ))
+abbrev pub session_handing : (name : List ℕ) → Format → KeysetFile → (file : Option (List ℕ))
     → Option Handing
 session_handing name form out None = None
 session_handing name form out (Some file) =
@@ -154,7 +154,7 @@ pub record LockedHanding : Type 0 where
   pub handing : Handing
 
 -- a session under a lock puts a keyset where a file is named for it
-abbrev pub session_under : (lock : Master) → (name : List ℕ) → Format → Place
+abbrev pub session_under : (lock : Master) → (name : List ℕ) → Format → KeysetFile
     → (file : Option (List ℕ)) → Option LockedHanding
 session_under lock name form out None = None
 session_under lock name form out (Some file) = Some (record {
@@ -214,7 +214,7 @@ pub record CreatesUnder (table : Table) (run : Run) (template : List ℕ) (maste
   pub lock : Master
   pub form : lock.form ≡ master.form
   pub lies : LiesIn master run.told lock.file
-  pub out : Place
+  pub out : KeysetFile
   pub asked : run.asked ≡ create_keyset (Some lock) template out
   pub done : (answer_of table run).status ≡ status.Done
   pub put_form : out.form ≡ text.form
@@ -368,7 +368,7 @@ IsWithinIn formats.Binary keys = Unit {0}
 -- where it is asked to be, in the form that is asked for: where the name of a new file is free, and the
 -- keyset, if it is JSON that is asked for, is within the limit of what is read.
 abbrev pub IsUnwrapped : (master text : Written) → Keys → Type 0
-IsUnwrapped master text keys = (told : Told) (name : List ℕ) (in' out : Place)
+IsUnwrapped master text keys = (told : Told) (name : List ℕ) (in' out : KeysetFile)
     → LiesIn master told name → in'.form ≡ text.form
     → bytes_at in'.file told.files told.input ≡ Some text.bytes
     → IsFree out.file told.files → IsWithinIn out.form keys

@@ -22,7 +22,7 @@ use Rattle.seal_wrap.specs.Enveloping.{Asks, FailedAtFill, IsEnveloping, MakesDa
 use Rattle.seal_wrap.proofs.EnvelopeLemmas.{envelope-drawn}
 use Rattle.tink_spec.specs.Outside.{EntropyState, Drew, Stood}
 use Rattle.tinkey_cmds.specs.Draws.{Draw}
-use Rattle.tinkey_cmds.specs.declared.command.CmdFault.{CmdFault}
+use Rattle.tinkey_cmds.specs.declared.command.EditRefusal.{EditRefusal}
 use Rattle.tinkey_plans.specs.declared.status.Status.{Status}
 use Rattle.tinkey_plans.specs.declared.status.Status.TheVariants as status
 use Rattle.tinkey_plans.specs.Ends.{World, Ends, Settles, settled, draw_failed, draw_starved}
@@ -108,7 +108,7 @@ asks_none keys table scheme row plain ad before rest asked (inr (inr asks)) shor
 
 -- these bytes settle nothing yet, or what is made
 abbrev Decides : Draw (Result (List ℕ) Rule) → (drawn : List ℕ) → Type 0
-Decides give drawn = (give drawn ≡ None) ⊎ ((given : Result (Result (List ℕ) Rule) CmdFault) × Settles give drawn given)
+Decides give drawn = (give drawn ≡ None) ⊎ ((given : Result (Result (List ℕ) Rule) EditRefusal) × Settles give drawn given)
 
 settles_refused : (keys : Keys) (table : Table) (scheme : Scheme) (row : Row) (plain ad random : List ℕ) (rule : Rule) → length random ≡ random_of row → key_under scheme (data_key_of row random) ≡ Err rule
     → Settles (seals_envelope keys table scheme row plain ad) random (Ok (Err rule))
@@ -221,13 +221,13 @@ envelope_failed table keys scheme row plain ad old entropy fault next =
 
 -- memory was wanting behind bytes that were drawn
 starved_behind : (give : Draw (Result (List ℕ) Rule)) (drawn : List ℕ) (old : World) (entropy : EntropyState) → Decides give drawn → Drew old.entropy entropy drawn → Stood old.entropy.faults entropy.faults
-    → (next : Result (Result (List ℕ) Rule) CmdFault → Plan) → Ends (allocates (draws envelopings give (λ made. allocates (next made)))) old status.NoMemory (record old { entropy = entropy })
+    → (next : Result (Result (List ℕ) Rule) EditRefusal → Plan) → Ends (allocates (draws envelopings give (λ made. allocates (next made)))) old status.NoMemory (record old { entropy = entropy })
 starved_behind give drawn old entropy (inl none) drew stood next = inl (draw_starved tt refl (record { source = refl; sink = refl; store = refl }) drawn drew stood none)
 starved_behind give drawn old entropy (inr (given, settles)) drew stood next = inl (settled drawn entropy given drew stood settles (inr (refl, refl)))
 
 -- it was, at a fill or behind it
 pub starved_enveloping : (table : Table) (keys : Keys) (scheme : Scheme) (row : Row) (plain ad : List ℕ) (old : World) (entropy : EntropyState) → StoodAtFill keys table scheme row old.entropy entropy
-    → (next : Result (Result (List ℕ) Rule) CmdFault → Plan) → Ends (allocates (draws envelopings (seals_envelope keys table scheme row plain ad) (λ made. allocates (next made)))) old status.NoMemory (record old { entropy = entropy })
+    → (next : Result (Result (List ℕ) Rule) EditRefusal → Plan) → Ends (allocates (draws envelopings (seals_envelope keys table scheme row plain ad) (λ made. allocates (next made)))) old status.NoMemory (record old { entropy = entropy })
 starved_enveloping table keys scheme row plain ad old entropy fault next = by fault.asks fault.part
   where
     Ended : Type 0

@@ -6,7 +6,7 @@ use Rattle.keyset_json.specs.declared.reading.JsonError.{JsonError}
 use Rattle.keyset_json.specs.declared.reading.JsonError.TheVariants as json_errors
 use Rattle.keyset_model.specs.Keyset.{Keys}
 use Rattle.keyset_model.specs.Reading as binary
-use Rattle.keyset_model.specs.declared.keyset.KeysetFault.{KeysetFault}
+use Rattle.keyset_model.specs.declared.keyset.KeysetRefusal.{KeysetRefusal}
 use Rattle.keyset_model.specs.declared.reading.ReadError.{ReadError}
 use Rattle.keyset_model.specs.declared.reading.ReadError.TheVariants as errors
 use Rattle.tinkey_plans.specs.Ends.{World, Ends}
@@ -17,7 +17,7 @@ use Rattle.tinkey_plans.specs.declared.origin.Origin.{Origin}
 use Rattle.tinkey_plans.specs.declared.status.Status.{Status}
 use Rattle.tinkey_plans.specs.declared.status.Status.TheVariants as status
 
-faulty : (from : Origin) (b : Bool) (fault : KeysetFault) (w : World) → Ends (if b then ends (status.KeysetLocked fault from) tt else ends (status.Keyset fault) tt) w (if b then status.KeysetLocked fault from else status.Keyset fault) w
+faulty : (from : Origin) (b : Bool) (fault : KeysetRefusal) (w : World) → Ends (if b then ends (status.KeysetLocked fault from) tt else ends (status.Keyset fault) tt) w (if b then status.KeysetLocked fault from else status.Keyset fault) w
 faulty from true fault w = (refl, refl)
 faulty from false fault w = (refl, refl)
 

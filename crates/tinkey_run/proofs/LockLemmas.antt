@@ -23,7 +23,7 @@ use Rattle.tinkey_plans.specs.declared.status.Status.{Status}
 use Rattle.tinkey_cmds.specs.Edits.{Edit, first, step}
 use Rattle.key_msgs.specs.Templates.{Row}
 use Rattle.tinkey_plans.proofs.StepLemmas.{ends_there, passes_then}
-use Rattle.tinkey_words.specs.Words.{Lock, Master, NewLock, Place}
+use Rattle.tinkey_words.specs.Words.{Lock, Master, NewLock, KeysetFile}
 use Rattle.tinkey_words.specs.declared.words.rows.Format.{Format}
 use Rattle.tinkey_words.specs.declared.words.rows.Format.TheVariants as formats
 
@@ -108,11 +108,11 @@ pub master_ends : {A : Type 0} {held : A → Option (Table × Keys × Held)} {ta
 master_ends {table = table} {old = old} {new = new} {s = s} from m rest r is opened = finished_there {A = Option Keys} (opens_master from table m) (rest table) old new r s is opened.passes
 
 -- the same where a keyset is taken behind it
-pub lock_passes : {A : Type 0} {held : A → Option (Table × Keys × Held)} {table : Table} {old mid : World} {l : A} (from : Origin) (lock : Lock) (place : Place) (new : World) (r : Result Keyset Status) → PassesLock held table (opens_lock table lock) old (Ok l) mid
+pub lock_passes : {A : Type 0} {held : A → Option (Table × Keys × Held)} {table : Table} {old mid : World} {l : A} (from : Origin) (lock : Lock) (place : KeysetFile) (new : World) (r : Result Keyset Status) → PassesLock held table (opens_lock table lock) old (Ok l) mid
     → ((master : Option Keys) → IsLock (held l) table master → Passes (takes_under from table master place) mid r new) → Passes (takes_locked from table lock place) old r new
 lock_passes {table = table} {old = old} {mid = mid} from lock place new r opened done = let p = opened.passes in passes_then (opens_lock table lock) (λ master. takes_under from table master place) old mid new p.0 r p.2 (done p.0 p.1)
 
-pub lock_passes_none : {A : Type 0} {held : A → Option (Table × Keys × Held)} {table : Table} {old new : World} {s : Status} (from : Origin) (lock : Lock) (place : Place) (r : Result Keyset Status) → IsErrAnd r (λ e. e ≡ s) → PassesLock held table (opens_lock table lock) old (Err s) new → Passes (takes_locked from table lock place) old r new
+pub lock_passes_none : {A : Type 0} {held : A → Option (Table × Keys × Held)} {table : Table} {old new : World} {s : Status} (from : Origin) (lock : Lock) (place : KeysetFile) (r : Result Keyset Status) → IsErrAnd r (λ e. e ≡ s) → PassesLock held table (opens_lock table lock) old (Err s) new → Passes (takes_locked from table lock place) old r new
 lock_passes_none {table = table} {old = old} {new = new} {s = s} from lock place r is opened = ends_there {A = Option Keys} (opens_lock table lock) (λ master. takes_under from table master place) old new r s is opened.passes
 
 -- what is held of a lock serves, where it is a master
@@ -179,40 +179,40 @@ written_in_clear table (Some m) form keys old new r is passes = absurd is.is
 
 -- ---- the plans of commands that put a keyset, from some step on
 
-abbrev pub creates_under : Table → Place → Row → Option Keys → Plan
+abbrev pub creates_under : Table → KeysetFile → Row → Option Keys → Plan
 creates_under table out row master = makes_keyset (first row) (puts_under table master out)
 
-abbrev pub creates_row : Table → Lock → Place → Row → Plan
+abbrev pub creates_row : Table → Lock → KeysetFile → Row → Plan
 creates_row table lock out row = opens_lock table lock (creates_under table out row)
 
-abbrev pub edits_keys : Table → Place → Edit → Option Keys → Keys → Plan
+abbrev pub edits_keys : Table → KeysetFile → Edit → Option Keys → Keys → Plan
 edits_keys table out edit master keys = makes_keyset (step keys edit) (puts_under table master out)
 
-abbrev pub edits_under : Table → (in' out : Place) → Edit → Option Keys → Plan
+abbrev pub edits_under : Table → (in' out : KeysetFile) → Edit → Option Keys → Plan
 edits_under table in' out edit master = takes_under origins.In table master in' (edits_keys table out edit master)
 
-abbrev pub edits_with : Table → Lock → (in' out : Place) → Edit → Plan
+abbrev pub edits_with : Table → Lock → (in' out : KeysetFile) → Edit → Plan
 edits_with table lock in' out edit = opens_lock table lock (edits_under table in' out edit)
 
-abbrev pub converts_to : Table → (in' out : Place) → (taken put : Option Keys) → Plan
+abbrev pub converts_to : Table → (in' out : KeysetFile) → (taken put : Option Keys) → Plan
 converts_to table in' out taken put = takes_under origins.In table taken in' (puts_under table put out)
 
-abbrev pub converts_under : Table → NewLock → (in' out : Place) → Option Keys → Plan
+abbrev pub converts_under : Table → NewLock → (in' out : KeysetFile) → Option Keys → Plan
 converts_under table new in' out taken = opens_new_lock table new taken (converts_to table in' out taken)
 
-abbrev pub holds_under : Table → (name : List ℕ) → Format → (out : Place) → Option Keys → Plan
+abbrev pub holds_under : Table → (name : List ℕ) → Format → (out : KeysetFile) → Option Keys → Plan
 holds_under table name form out master = takes_under origins.Keyset table master (record { file = Some name; form = form }) (holds_session table master out)
 
 -- ---- a session under a lock
 
-pub holds_ends : {held : Option (Table × Keys × Held)} {table : Table} {master : Option Keys} (name : List ℕ) (form : Format) (out : Place) (old new : World) (r : Result (Unit {0}) Status) (s : Status) → IsLock held table master → IsErrAnd r (λ e. e ≡ s) → Passes {A = Keys} (takes_under origins.Keyset table master (record { file = Some name; form = form })) old (Err s) new → Finishes (holds_under table name form out master) old r new
+pub holds_ends : {held : Option (Table × Keys × Held)} {table : Table} {master : Option Keys} (name : List ℕ) (form : Format) (out : KeysetFile) (old new : World) (r : Result (Unit {0}) Status) (s : Status) → IsLock held table master → IsErrAnd r (λ e. e ≡ s) → Passes {A = Keys} (takes_under origins.Keyset table master (record { file = Some name; form = form })) old (Err s) new → Finishes (holds_under table name form out master) old r new
 holds_ends {table = table} {master = master} name form out old new r s lock is one = finished_there {A = Keys} (takes_under origins.Keyset table master (record { file = Some name; form = form })) (holds_session table master out) old new r s is one
 
-pub holds_then : {held : Option (Table × Keys × Held)} {table : Table} {master : Option Keys} (name : List ℕ) (form : Format) (out : Place) (old mid new : World) (keyset : Keyset) (r : Result (Unit {0}) Status) → IsLock held table master → Passes (takes_under origins.Keyset table master (record { file = Some name; form = form })) old (Ok keyset) mid → Finishes (holds_session table master out keyset) mid r new → Finishes (holds_under table name form out master) old r new
+pub holds_then : {held : Option (Table × Keys × Held)} {table : Table} {master : Option Keys} (name : List ℕ) (form : Format) (out : KeysetFile) (old mid new : World) (keyset : Keyset) (r : Result (Unit {0}) Status) → IsLock held table master → Passes (takes_under origins.Keyset table master (record { file = Some name; form = form })) old (Ok keyset) mid → Finishes (holds_session table master out keyset) mid r new → Finishes (holds_under table name form out master) old r new
 holds_then {table = table} {master = master} name form out old mid new keyset r lock one two = finishes_then {A = Keys} (takes_under origins.Keyset table master (record { file = Some name; form = form })) (holds_session table master out) old mid new keyset r one two
 
-pub not_free : {held : Option (Table × Keys × Held)} {table : Table} {master : Option Keys} (out : Place) (keys : Keys) (old new : World) (r : Result (Unit {0}) Status) (s : Status) → IsLock held table master → IsErrAnd r (λ e. e ≡ s) → Passes {A = Unit {0}} (finds_free out.file) old (Err s) new → Finishes (holds_session table master out keys) old r new
+pub not_free : {held : Option (Table × Keys × Held)} {table : Table} {master : Option Keys} (out : KeysetFile) (keys : Keys) (old new : World) (r : Result (Unit {0}) Status) (s : Status) → IsLock held table master → IsErrAnd r (λ e. e ≡ s) → Passes {A = Unit {0}} (finds_free out.file) old (Err s) new → Finishes (holds_session table master out keys) old r new
 not_free {table = table} {master = master} out keys old new r s lock is one = finished_there {A = Unit {0}} (finds_free out.file) (λ free. exchanges (talk table keys) (saves table master out)) old new r s is one
 
-pub free_then : {held : Option (Table × Keys × Held)} {table : Table} {master : Option Keys} (out : Place) (keys : Keys) (old mid new : World) (r : Result (Unit {0}) Status) → IsLock held table master → Passes (finds_free out.file) old (Ok tt) mid → Finishes (exchanges (talk table keys) (saves table master out)) mid r new → Finishes (holds_session table master out keys) old r new
+pub free_then : {held : Option (Table × Keys × Held)} {table : Table} {master : Option Keys} (out : KeysetFile) (keys : Keys) (old mid new : World) (r : Result (Unit {0}) Status) → IsLock held table master → Passes (finds_free out.file) old (Ok tt) mid → Finishes (exchanges (talk table keys) (saves table master out)) mid r new → Finishes (holds_session table master out keys) old r new
 free_then {table = table} {master = master} out keys old mid new r lock one two = finishes_then (finds_free out.file) (λ free. exchanges (talk table keys) (saves table master out)) old mid new tt r one two

@@ -1,5 +1,5 @@
 -- A stream that goes into a new file: a pass over a draft, and what became of the draft, are together the end of a
--- pass whose output is kept aside until all of it is there.
+-- pass whose output is kept in a draft until all of it is there.
 use Rattle.std.proofs.Common.{◌≡◌, ◌∙◌, refl, sym, ap, subst, inl, inr, ℕ, ◌+◌, ◌<◌, ◌≤◌, List, [], ◌++◌, length, length-append, Bool, true, false, Option, Some, None, Result, Ok, Err, arith}
 use Rattle.std.specs.FinMap as map
 use Rattle.std.specs.Prelude.{IfSome, IsErrOf, option_map}

@@ -20,8 +20,8 @@ use Rattle.wrapped_prims.specs.Answers.{Sealed, dopen_answer, open_answer, prima
 use Rattle.wrapped_prims.specs.Candidates.{prefix_of, prefix_bytes}
 use Rattle.wrapped_prims.specs.Fitness.{key_of_record, unfit}
 use Rattle.wrapped_prims.specs.Making.{IsFaultOf, IsOver}
-use Rattle.wrapped_prims.specs.declared.handle.HandleFault.{HandleFault}
-use Rattle.wrapped_prims.specs.declared.handle.HandleFault.TheVariants as faults
+use Rattle.wrapped_prims.specs.declared.handle.HandleError.{HandleError}
+use Rattle.wrapped_prims.specs.declared.handle.HandleError.TheVariants as faults
 use Rattle.wrapped_prims.specs.declared.held.Held.{Held}
 use Rattle.wrapped_prims.specs.Sealing.{IsSealing, IsSealFault}
 use Rattle.wrapped_prims.specs.declared.sealing.SealFault.TheVariants as seal_faults
@@ -29,7 +29,7 @@ use Rattle.tinkey_plans.specs.declared.status.Status.{Status}
 use Rattle.tinkey_plans.specs.declared.status.Status.TheVariants as status
 use Rattle.tinkey_plans.specs.Ends.{World, Ends, settled, draw_failed}
 use Rattle.tinkey_cmds.specs.Draws.{Draw, Drawn}
-use Rattle.tinkey_cmds.specs.declared.command.CmdFault.{CmdFault}
+use Rattle.tinkey_cmds.specs.declared.command.EditRefusal.{EditRefusal}
 use Rattle.tinkey_plans.specs.Plan.{Plan, allocates, draws, sealings}
 use Rattle.tinkey_plans.specs.Steps.{reads_input, Passes}
 use Rattle.tinkey_words.specs.declared.words.rows.Format.{Format}
@@ -45,7 +45,7 @@ use Rattle.tinkey_plans.specs.Using.{as_drawn, dseals_plain, limit_for, seals_pl
 use Rattle.tinkey_words.specs.Words.{AskedWork, Lock, to_seal, to_reseal, to_dreseal, primitive_for}
 
 -- a keyset that can't serve, or want of memory
-pub unfit_ends : (table : Table) (primitive : Primitive) (keys : Keys) (fault : HandleFault) (w : World) → IsFaultOf (unfit keys primitive table) fault → (next : Unit {0} → Plan) → Ends (handles table primitive keys next) w (handle_refusal fault) w
+pub unfit_ends : (table : Table) (primitive : Primitive) (keys : Keys) (fault : HandleError) (w : World) → IsFaultOf (unfit keys primitive table) fault → (next : Unit {0} → Plan) → Ends (handles table primitive keys next) w (handle_refusal fault) w
 unfit_ends table primitive keys (faults.NoManager i) w is next = rw is (inl (refl, refl))
 unfit_ends table primitive keys (faults.BadKey i rule) w is next = rw is (inl (refl, refl))
 unfit_ends table primitive keys (faults.NotRaw i) w is next = rw is (inl (refl, refl))
@@ -110,7 +110,7 @@ short_left key table keys plain ad text give made (Some random) primary short = 
 
 -- the entropy failed at the IV
 pub draw_failed_there : (table : Table) (keys : Keys) (plain ad : List ℕ) (text : List ℕ → List ℕ) (give : Draw (List ℕ)) → IsMadeSo text keys table plain ad give → (old : World) (entropy : EntropyState) → IsSealFault keys table old.entropy entropy seal_faults.EntropyFault
-    → (next : Result (List ℕ) CmdFault → Plan) → Ends (allocates (draws sealings give next)) old status.EntropyFault (record old { entropy = entropy })
+    → (next : Result (List ℕ) EditRefusal → Plan) → Ends (allocates (draws sealings give next)) old status.EntropyFault (record old { entropy = entropy })
 draw_failed_there table keys plain ad text give made old entropy fault next =
     inl (draw_failed refl (record { source = refl; sink = refl; store = refl }) (record {
       rose = fault.entropy.1.rose;
@@ -147,7 +147,7 @@ same_entropy old new drew stood =
 
 -- memory was wanting, before the IV was drawn or behind it
 pub starved_sealing : (table : Table) (keys : Keys) (plain ad : List ℕ) (text : List ℕ → List ℕ) (give : Draw (List ℕ)) → IsMadeSo text keys table plain ad give → (old : World) (entropy : EntropyState) → IsSealFault keys table old.entropy entropy seal_faults.NoMemory
-    → (next : Result (List ℕ) CmdFault → Plan) → Ends (allocates (draws sealings give (λ made. allocates (next made)))) old status.NoMemory (record old { entropy = entropy })
+    → (next : Result (List ℕ) EditRefusal → Plan) → Ends (allocates (draws sealings give (λ made. allocates (next made)))) old status.NoMemory (record old { entropy = entropy })
 starved_sealing table keys plain ad text give made old entropy fault next = elim fault.entropy.1 [
   | inl none ↦ inr (refl, ap (λ (e : EntropyState). record old { entropy = e }) (same_entropy old.entropy entropy none fault.entropy.0))
   | inr iv ↦ inl (settled iv.drawn entropy (Ok (text (prefix_bytes (prefix_of under.0) ++ seal_of fault.key iv.drawn plain ad))) iv.drew fault.entropy.0 (settles iv.drawn iv.whole) (inr (refl, refl)))

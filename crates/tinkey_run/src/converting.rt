@@ -15,7 +15,7 @@ use managers::{KeyTable, Managers};
 use std::alloc::Global;
 use tink_base::{Entropy, Sink, Source, Store};
 use tinkey_plans::{Origin, Status};
-use tinkey_words::{Master, NewLock, Place};
+use tinkey_words::{KeysetFile, Master, NewLock};
 
 /// The keyset at one place, in clear or under the lock, put at another one, as the new lock says.
 #[inline(never)]
@@ -24,8 +24,8 @@ pub(crate) fn convert_keyset<S: Source, K: Sink, E: Entropy, D: Store>(
     managers: &Managers,
     lock: Option<Master<'_>>,
     new: NewLock<'_>,
-    input: Place<'_>,
-    output: Place<'_>,
+    input: KeysetFile<'_>,
+    output: KeysetFile<'_>,
     source: &mut S,
     sink: &mut K,
     entropy: &mut E,
@@ -59,8 +59,8 @@ fn convert_under<S: Source, K: Sink, E: Entropy, D: Store>(
     managers: &Managers,
     lock: Option<&OpenMaster<'_>>,
     new: NewLock<'_>,
-    input: Place<'_>,
-    output: Place<'_>,
+    input: KeysetFile<'_>,
+    output: KeysetFile<'_>,
     source: &mut S,
     sink: &mut K,
     entropy: &mut E,
@@ -130,8 +130,8 @@ fn convert<S: Source, K: Sink, E: Entropy, D: Store>(
     alloc: Global,
     taken: Option<&OpenMaster<'_>>,
     put: Option<&OpenMaster<'_>>,
-    input: Place<'_>,
-    output: Place<'_>,
+    input: KeysetFile<'_>,
+    output: KeysetFile<'_>,
     source: &mut S,
     sink: &mut K,
     entropy: &mut E,

@@ -18,10 +18,10 @@ use keyset_model::Keyset;
 use managers::{KeyTable, Managers};
 use std::alloc::Global;
 use tink_base::{Entropy, Sink, Source, Store};
-use tinkey_cmds::{Command, apply, create};
+use tinkey_cmds::{KeysetEdit, apply, create};
 use tinkey_plans::{Origin, Status};
 use tinkey_session::{find_edit, find_template};
-use tinkey_words::{Master, Place};
+use tinkey_words::{KeysetFile, Master};
 
 /// create-keyset: the keyset of one new key of the template of this name, put in clear or under the
 /// lock.
@@ -31,7 +31,7 @@ pub(crate) fn create_keyset<K: Sink, E: Entropy, D: Store>(
     managers: &Managers,
     lock: Option<Master<'_>>,
     name: &str,
-    output: Place<'_>,
+    output: KeysetFile<'_>,
     sink: &mut K,
     entropy: &mut E,
     store: &mut D,
@@ -68,7 +68,7 @@ fn create_under<K: Sink, E: Entropy, D: Store>(
     alloc: Global,
     lock: Option<&OpenMaster<'_>>,
     template: &Template,
-    output: Place<'_>,
+    output: KeysetFile<'_>,
     sink: &mut K,
     entropy: &mut E,
     store: &mut D,
@@ -108,9 +108,9 @@ pub(crate) fn edit_keyset<S: Source, K: Sink, E: Entropy, D: Store>(
     alloc: Global,
     managers: &Managers,
     lock: Option<Master<'_>>,
-    edit: Command<&str>,
-    input: Place<'_>,
-    output: Place<'_>,
+    edit: KeysetEdit<&str>,
+    input: KeysetFile<'_>,
+    output: KeysetFile<'_>,
     source: &mut S,
     sink: &mut K,
     entropy: &mut E,
@@ -142,9 +142,9 @@ pub(crate) fn edit_keyset<S: Source, K: Sink, E: Entropy, D: Store>(
 fn edit_under<S: Source, K: Sink, E: Entropy, D: Store>(
     alloc: Global,
     lock: Option<&OpenMaster<'_>>,
-    edit: &Command<Template>,
-    input: Place<'_>,
-    output: Place<'_>,
+    edit: &KeysetEdit<Template>,
+    input: KeysetFile<'_>,
+    output: KeysetFile<'_>,
     source: &mut S,
     sink: &mut K,
     entropy: &mut E,
@@ -193,7 +193,7 @@ fn create_of<E: Entropy>(
 fn edit_of<E: Entropy>(
     alloc: Global,
     keyset: Keyset,
-    command: &Command<Template>,
+    command: &KeysetEdit<Template>,
     entropy: &mut E,
 ) -> Result<Keyset, Status>
     requires short { AllByRecursion IsShort keyset.records }

@@ -2,13 +2,13 @@
 //! Each is the contract of a function with no effect, in the crate with its definitions;
 //! docs/LAWS.md states each in a sentence.
 
+pub use aead_kinds::laws::gcm_siv_opens_sealings;
 pub use aead_kinds::laws::opens_sealings as schemes_open_sealings;
+pub use aead_kinds::laws::polyval_is_dot;
 pub use aes_core::laws::xored_blocks_give_bytes;
 pub use aes_core::laws::xored_blocks_go_on;
 pub use aes_core::laws::xored_blocks_keep_length;
 pub use aes_core::laws::xored_blocks_undo_themselves;
-pub use aead_kinds::laws::gcm_siv_opens_sealings;
-pub use aead_kinds::laws::polyval_is_dot;
 pub use ghash::laws::product_associates;
 pub use ghash::laws::product_commutes;
 pub use ghash::laws::product_distributes;

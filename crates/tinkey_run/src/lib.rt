@@ -27,8 +27,8 @@ mod using;
 mod wrapping;
 
 pub use key_msgs::Rule;
-pub use keyset_model::KeysetFault;
-pub use tinkey_cmds::CmdFault;
+pub use keyset_model::KeysetRefusal;
+pub use tinkey_cmds::EditRefusal;
 pub use tinkey_plans::{Sealer, Status, Unopened, starve};
 pub use tinkey_session::Refusal;
 pub use top::run;

@@ -11,7 +11,7 @@ use managers::{KeyTable, Managers};
 use std::alloc::Global;
 use tink_base::{Bytes, Source, Store};
 use tinkey_plans::Status;
-use tinkey_words::{Master, Place};
+use tinkey_words::{KeysetFile, Master};
 
 /// list-keyset: the listing of the keyset in a file, or of the keyset in the whole input.
 #[inline(never)]
@@ -19,7 +19,7 @@ pub(crate) fn list_keyset<S: Source, D: Store>(
     alloc: Global,
     managers: &Managers,
     lock: Option<Master<'_>>,
-    input: Place<'_>,
+    input: KeysetFile<'_>,
     source: &mut S,
     store: &mut D,
 ) -> Result<Bytes, Status>

@@ -22,7 +22,7 @@ use managers::{KeyTable, Managers};
 use std::alloc::Global;
 use tink_base::{Bytes, Entropy, Sink, Source, Store};
 use tinkey_plans::{Origin, Status};
-use tinkey_words::{Format, Master, Place};
+use tinkey_words::{Format, KeysetFile, Master};
 use wrapped_prims::Handle;
 
 /// A master that was opened: its keyset, and the handle of that keyset's keys.
@@ -162,7 +162,7 @@ fn origin_of(file: Option<&str>) -> Origin
 pub(crate) fn take_under<S: Source, D: Store>(
     alloc: Global,
     lock: Option<&OpenMaster<'_>>,
-    place: Place<'_>,
+    place: KeysetFile<'_>,
     source: &mut S,
     store: &mut D,
 ) -> Result<Keyset, Status>
@@ -229,7 +229,7 @@ pub(crate) fn take_locked<S: Source, D: Store>(
     alloc: Global,
     managers: &Managers,
     lock: Option<Master<'_>>,
-    place: Place<'_>,
+    place: KeysetFile<'_>,
     source: &mut S,
     store: &mut D,
 ) -> Result<Keyset, Status>
@@ -302,7 +302,7 @@ pub(crate) fn written_under<E: Entropy>(
 pub(crate) fn put_under<K: Sink, E: Entropy, D: Store>(
     alloc: Global,
     lock: Option<&OpenMaster<'_>>,
-    out: Place<'_>,
+    out: KeysetFile<'_>,
     keyset: &Keyset,
     sink: &mut K,
     entropy: &mut E,

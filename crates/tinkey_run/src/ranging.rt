@@ -7,9 +7,9 @@ ghost use Rattle.stream_range.specs.Stored.{bytes_in};
 ghost use Rattle.tink_spec.specs.Files.{HoldsSize, KeptFiles};
 ghost use Rattle.tink_spec.specs.Outside.{Rose, Stood};
 ghost use Rattle.tinkey_plans.specs.Ends.{World, GaveWithin};
-ghost use Rattle.tinkey_plans.specs.Ranging.{opened_or, opens_stretch, range_output, stretch_for};
+ghost use Rattle.tinkey_plans.specs.Ranging.{opened_or, opens_file_range, range_output, range_for};
 ghost use Rattle.tinkey_plans.specs.Steps.{Passes};
-ghost use Rattle.tinkey_plans.specs.Stretch.{GivesAtMost, stretch_in};
+ghost use Rattle.tinkey_plans.specs.FileRange.{GivesAtMost, range_in};
 ghost use Rattle.tinkey_words.specs.Words.{seen_datum, seen_lock, seen_range};
 
 use crate::streaming::load_stream_keys;
@@ -24,7 +24,7 @@ use tinkey_words::{Datum, Format, Master, Range};
 
 /// The plaintext of a range of the stream in a file, by the keys of the keyset in another file.
 #[inline(never)]
-pub(crate) fn open_stretch<D: Store>(
+pub(crate) fn open_file_range<D: Store>(
     alloc: Global,
     managers: &Managers,
     lock: Option<Master<'_>>,
@@ -53,7 +53,7 @@ fn open_under<D: Store>(
     store: &mut D,
 ) -> Result<Bytes, Status>
     ensures { (w : World) → Passes
-        (opens_stretch keys.now (seen_datum ad.entry) (seen_range range.entry))
+        (opens_file_range keys.now (seen_datum ad.entry) (seen_range range.entry))
         (record w { store = D.state store.old }) result (record w { store = D.state store.new }) }
 {
     let Ok(ad) = datum(alloc, ad) else {
@@ -79,10 +79,10 @@ fn open_file<D: Store>(
     requires held { HoldsSize (D.state store.old) range.file.now size }
     ensures range { IfSome (bytes_in (D.state store.old).files range.entry.file.now) (λ bytes.
         IsRange result
-        (stretch_in (stretch_for keys.now ad.now (seen_range range.entry)) bytes)) }
+        (range_in (range_for keys.now ad.now (seen_range range.entry)) bytes)) }
     ensures kept { KeptFiles (D.state store.old) (D.state store.new) }
     ensures gave { (most : ℕ) × GivesAtMost (D.state store.old).files
-        (stretch_for keys.now ad.now (seen_range range.entry)) most
+        (range_for keys.now ad.now (seen_range range.entry)) most
         × (IsErrOf result RangeFault.PastEnd → most ≤ 2 * largest_of keys.now.keys)
         × GaveWithin (D.state store.old) (D.state store.new) most }
     ensures no_fault { (IsErrOf result RangeFault.ReadFault → ⊥) →

@@ -21,7 +21,7 @@ use tink_base::{Entropy, Lookahead, Sink, Source, Store};
 use tinkey_plans::{Origin, Status};
 use tinkey_session::TalkFault;
 use tinkey_session::talk::talk;
-use tinkey_words::{Format, Master, Place};
+use tinkey_words::{Format, KeysetFile, Master};
 
 /// session: answers the lines of the input over the keyset in the file of this name, and puts the
 /// last keyset into a new file, if one is named. Both are in clear or under the lock.
@@ -32,7 +32,7 @@ pub(crate) fn answer_lines<S: Source, K: Sink, E: Lookahead, D: Store>(
     lock: Option<Master<'_>>,
     keyset: &str,
     form: Format,
-    output: Place<'_>,
+    output: KeysetFile<'_>,
     source: &mut S,
     sink: &mut K,
     entropy: &mut E,
@@ -67,7 +67,7 @@ fn answer_under<S: Source, K: Sink, E: Lookahead, D: Store>(
     lock: Option<&OpenMaster<'_>>,
     keyset: &str,
     form: Format,
-    output: Place<'_>,
+    output: KeysetFile<'_>,
     source: &mut S,
     sink: &mut K,
     entropy: &mut E,
@@ -121,7 +121,7 @@ fn answer_all<S: Source, K: Sink, E: Lookahead, D: Store>(
     managers: &Managers,
     lock: Option<&OpenMaster<'_>>,
     keyset: Keyset,
-    output: Place<'_>,
+    output: KeysetFile<'_>,
     source: &mut S,
     sink: &mut K,
     entropy: &mut E,
@@ -171,7 +171,7 @@ fn ended(fault: TalkFault) -> Status
 fn save<E: Entropy, D: Store>(
     alloc: Global,
     lock: Option<&OpenMaster<'_>>,
-    output: Place<'_>,
+    output: KeysetFile<'_>,
     keyset: &Keyset,
     entropy: &mut E,
     store: &mut D,

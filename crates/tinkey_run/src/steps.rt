@@ -11,7 +11,7 @@ ghost use Rattle.tinkey_plans.specs.Origins.{begins_of};
 ghost use Rattle.tinkey_plans.specs.Steps.{refusal_of, wire_status, fault_status, has_no_key, json_refusal_of, OrStarved, keyset_in, loads_bytes, reads_bytes, takes_bytes, loads_keyset, reads_input, Passes, PassesAs};
 
 use keyset_json::{JsonError, read_json};
-use keyset_model::{Keyset, KeysetFault, ReadError, read_binary};
+use keyset_model::{Keyset, KeysetRefusal, ReadError, read_binary};
 use seal_wrap::{is_wrapped_binary, is_wrapped_json};
 use std::alloc::Global;
 use tink_base::{
@@ -141,11 +141,11 @@ fn json_refusal(alloc: Global, from: Origin, bytes: &[u8], e: JsonError) -> Stat
 
 /// The status of a keyset with this fault, read from these bytes as JSON: one that has no key
 /// because it is encrypted is reported as encrypted.
-fn json_fault(alloc: Global, from: Origin, bytes: &[u8], fault: KeysetFault) -> Status
+fn json_fault(alloc: Global, from: Origin, bytes: &[u8], fault: KeysetRefusal) -> Status
     ensures { OrStarved (fault_status from (is_wrapped_json bytes.now && has_no_key fault) fault) result }
 {
     match fault {
-        KeysetFault::Empty => match is_wrapped_json(alloc, bytes) {
+        KeysetRefusal::Empty => match is_wrapped_json(alloc, bytes) {
             Ok(true) => Status::KeysetLocked(fault, from),
             Ok(false) => Status::Keyset(fault),
             Err(NoMemory) => Status::NoMemory,
@@ -180,7 +180,7 @@ fn wire_status(alloc: Global, from: Origin, bytes: &[u8], at: usize) -> Status
 
 /// The status of a keyset with this fault, all of whose keys were read from these bytes: it counts
 /// as encrypted only with an info.
-fn fault_status(alloc: Global, from: Origin, bytes: &[u8], fault: KeysetFault) -> Status
+fn fault_status(alloc: Global, from: Origin, bytes: &[u8], fault: KeysetRefusal) -> Status
     ensures { OrStarved (fault_status from (is_wrapped_binary bytes.now true) fault) result }
 {
     match is_wrapped_binary(alloc, bytes, true) {

@@ -16,7 +16,7 @@ use crate::enveloping::use_envelope;
 use crate::key_of::tell_keys;
 use crate::list::list_keyset;
 use crate::output::{finish_output, shown, write_output};
-use crate::ranging::open_stretch;
+use crate::ranging::open_file_range;
 use crate::self_testing::tell_self_test;
 use crate::session::answer_lines;
 use crate::streaming::{StreamWork, load_stream_keys, put_stream};
@@ -255,7 +255,7 @@ fn dispatch<S: Source, K: Sink, E: Lookahead, D: PieceStore>(
             range,
             output,
         } => {
-            let opened = open_stretch(alloc, managers, lock, keyset, form, ad, range, store);
+            let opened = open_file_range(alloc, managers, lock, keyset, form, ad, range, store);
             finish_output(alloc, output, sink, store, opened)
         }
         Request::SelfTest { seed, lines } => {

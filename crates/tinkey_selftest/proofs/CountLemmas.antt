@@ -3,7 +3,7 @@ use Rattle.std.proofs.Common.{◌≡◌, ap, ℕ, zero, suc, ◌+◌, ◌<◌, �
 use Rattle.keyset_model.specs.Keyset.{Keys}
 use Rattle.managers.specs.Table.{Table}
 use Rattle.tinkey_cmds.specs.Edits.{Stepped, first}
-use Rattle.tinkey_cmds.specs.declared.command.CmdFault.{CmdFault}
+use Rattle.tinkey_cmds.specs.declared.command.EditRefusal.{EditRefusal}
 use Rattle.tinkey_selftest.specs.Laws.{CountsAddUp}
 use Rattle.tinkey_selftest.specs.Numbers.{random_bytes, words_of}
 use Rattle.tinkey_selftest.specs.Ready.{HasRoom}
@@ -41,10 +41,10 @@ lines_counted table seed trial (suc k) =
     let rest = lines_counted table seed trial k in
     omega (arith, one, rest)
 
-same_Ok : (a b : Counts) → ◌≡◌ {A = Result Counts CmdFault} (Ok a) (Ok b) → a ≡ b
+same_Ok : (a b : Counts) → ◌≡◌ {A = Result Counts EditRefusal} (Ok a) (Ok b) → a ≡ b
 same_Ok a b e = cc
 
-answer_adds_up : (table : Table) (seed lines : ℕ) (answer : Result Keys CmdFault) (left : List ℕ) (n : Counts) → counts_from table seed lines answer left ≡ Ok n → total n ≡ lines
+answer_adds_up : (table : Table) (seed lines : ℕ) (answer : Result Keys EditRefusal) (left : List ℕ) (n : Counts) → counts_from table seed lines answer left ≡ Ok n → total n ≡ lines
 answer_adds_up table seed lines (Ok keys) left n e =
     let all = lines_counted table seed (start keys left) lines in
     let same = ap total (same_Ok _ n e) in

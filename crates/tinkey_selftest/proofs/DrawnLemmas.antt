@@ -17,7 +17,7 @@ use Rattle.tinkey_cmds.proofs.Lists.{each-append}
 use Rattle.tinkey_cmds.specs.Applying.{Draws, RanOut}
 use Rattle.keyset_model.specs.Writing.{HasWireBounds}
 use Rattle.tinkey_cmds.specs.Edits.{first}
-use Rattle.tinkey_cmds.specs.declared.command.CmdFault.{CmdFault}
+use Rattle.tinkey_cmds.specs.declared.command.EditRefusal.{EditRefusal}
 use Rattle.tinkey_selftest.proofs.EntropyLemmas.{first_is_template}
 use Rattle.tinkey_selftest.proofs.ShortLemmas.{sealed_small}
 use Rattle.tinkey_selftest.specs.Ready.{IsSmall, kept_of, trial_of}
@@ -85,7 +85,7 @@ first_now row keys old new e enough steady d =
     let few = there.2 in
     (is, omega (arith, same, few), d.1.steady ∙ steady, keyset_first keys old.left _ is)
 
-pub refused_now : (row : Row) (fault : CmdFault) (old new : EntropyInMemory) → row ≡ first_row
+pub refused_now : (row : Row) (fault : EditRefusal) (old new : EntropyInMemory) → row ≡ first_row
     → Draws (first row) (told_entropy old) (told_entropy new) (Err fault)
     → (left : List ℕ) × (first first_row old.left ≡ Some (record { answer = Err fault; left = left }))
 refused_now row fault old new e d = (new.left, ap (λ r. first r old.left) (sym e) ∙ ap (first row) (drew_left old new d.0 d.1) ∙ d.2 new.left)

@@ -8,7 +8,7 @@ use Rattle.keyset_model.specs.declared.record.Record.{Record}
 use Rattle.managers.specs.Standard.{standard_table}
 use Rattle.tinkey_cmds.proofs.Lists.{each-append}
 use Rattle.tinkey_cmds.specs.Edits.{Stepped, first}
-use Rattle.tinkey_cmds.specs.declared.command.CmdFault.{CmdFault}
+use Rattle.tinkey_cmds.specs.declared.command.EditRefusal.{EditRefusal}
 use Rattle.tinkey_selftest.proofs.EntropyLemmas.{first_is_template}
 use Rattle.tinkey_selftest.proofs.KeyLemmas.{keys_are_found}
 use Rattle.tinkey_selftest.specs.Laws.{NothingIsLost}
@@ -169,10 +169,10 @@ lines_good law kept seed trial (suc k) good =
     let is_good = lines_good law kept seed trial k good in
     task_good law kept before task _ refl (known_task (words_of seed k) before is_good.sealings) is_good
 
-same_Ok : (a b : Counts) → ◌≡◌ {A = Result Counts CmdFault} (Ok a) (Ok b) → a ≡ b
+same_Ok : (a b : Counts) → ◌≡◌ {A = Result Counts EditRefusal} (Ok a) (Ok b) → a ≡ b
 same_Ok a b e = cc
 
-answer_unlost : LinesOpenPresent → EditedIsKeyset → (seed lines : ℕ) (answer : Result Keys CmdFault) (left : List ℕ) (n : Counts) → ((keys : Keys) → answer ≡ Ok keys → IsKeyset keys)
+answer_unlost : LinesOpenPresent → EditedIsKeyset → (seed lines : ℕ) (answer : Result Keys EditRefusal) (left : List ℕ) (n : Counts) → ((keys : Keys) → answer ≡ Ok keys → IsKeyset keys)
     → counts_from standard_table seed lines answer left ≡ Ok n → n.lost ≡ 0
 answer_unlost law kept seed lines (Ok keys) left n there e =
     ap (λ c. c.lost) (sym (same_Ok _ n e))

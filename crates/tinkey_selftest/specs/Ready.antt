@@ -6,7 +6,7 @@ use Rattle.keyset_model.specs.declared.keyset.Keyset.{Keyset}
 use Rattle.keyset_model.specs.declared.record.Record.{Record}
 use Rattle.tink_base.specs.Memory.{EntropyInMemory, told_entropy}
 use Rattle.tinkey_cmds.specs.Draws.{Draw}
-use Rattle.tinkey_cmds.specs.declared.command.CmdFault.{CmdFault}
+use Rattle.tinkey_cmds.specs.declared.command.EditRefusal.{EditRefusal}
 use Rattle.tinkey_selftest.specs.Trial.{Trial, sealed_by, total}
 use Rattle.tinkey_selftest.specs.declared.counts.Counts.{Counts}
 use Rattle.tinkey_selftest.specs.declared.selftest.SelfTestFault.{SelfTestFault}
@@ -44,7 +44,7 @@ pub record HasRoom (n : Counts) : Type 0 where
   pub lost : n.lost ≤ n.refused
 
 -- the answer of a self-test is what is stated. Of want of memory nothing is said.
-abbrev pub Tests : (stated : Result Counts CmdFault) → Result Counts SelfTestFault → Type 0
+abbrev pub Tests : (stated : Result Counts EditRefusal) → Result Counts SelfTestFault → Type 0
 Tests stated (Ok counts) = stated ≡ Ok counts
 Tests stated (Err (faults.Refused fault)) = stated ≡ Err fault
 Tests stated (Err faults.NoMemory) = Unit {0}

@@ -19,8 +19,8 @@ use Rattle.keyset_model.specs.Keyset.{Keys, is_enabled, primary_of}
 use Rattle.keyset_model.specs.declared.record.Record.{Record}
 use Rattle.managers.specs.Table.{Table}
 use Rattle.tinkey_cmds.specs.Edits.{Stepped, first, Add, Rotate, Promote, Enable, Disable, Delete}
-use Rattle.tinkey_cmds.specs.declared.command.CmdFault.{CmdFault}
-use Rattle.tinkey_cmds.specs.declared.command.CmdFault.TheVariants.{IdsExhausted}
+use Rattle.tinkey_cmds.specs.declared.command.EditRefusal.{EditRefusal}
+use Rattle.tinkey_cmds.specs.declared.command.EditRefusal.TheVariants.{IdsExhausted}
 use Rattle.tinkey_selftest.specs.Numbers.{random_bytes, words_of}
 use Rattle.tinkey_selftest.specs.declared.counts.Counts.{Counts}
 use Rattle.tinkey_selftest.specs.declared.numbers.Words.{Words}
@@ -207,18 +207,18 @@ abbrev pub random_size : (lines : ℕ) → ℕ
 random_size lines = 320 * (lines + 1)
 
 -- over the first keyset, if there is one
-abbrev pub counts_from : Table → (seed lines : ℕ) → Result Keys CmdFault → (left : List ℕ)
-    → Result Counts CmdFault
+abbrev pub counts_from : Table → (seed lines : ℕ) → Result Keys EditRefusal → (left : List ℕ)
+    → Result Counts EditRefusal
 counts_from table seed lines (Ok keys) left =
     Ok (after_lines table seed (start keys left) lines).counts
 counts_from table seed lines (Err fault) left = Err fault
 
 -- there is always an answer on the first keyset, since the random bytes suffice
-abbrev pub counts_over : Table → (seed lines : ℕ) → Option Stepped → Result Counts CmdFault
+abbrev pub counts_over : Table → (seed lines : ℕ) → Option Stepped → Result Counts EditRefusal
 counts_over table seed lines None = Err IdsExhausted
 counts_over table seed lines (Some s) = counts_from table seed lines s.answer s.left
 
 -- the self-test of a number, with so many lines
-abbrev pub self_test : Table → (seed lines : ℕ) → Result Counts CmdFault
+abbrev pub self_test : Table → (seed lines : ℕ) → Result Counts EditRefusal
 self_test table seed lines =
     counts_over table seed lines (first first_row (random_bytes seed (random_size lines)))

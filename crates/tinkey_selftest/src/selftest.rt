@@ -16,7 +16,7 @@ use keyset_model::Keyset;
 use managers::{KeyTable, Managers};
 use std::alloc::Global;
 use tink_base::{MemEntropy, NoMemory};
-use tinkey_cmds::{CmdError, CmdFault, create};
+use tinkey_cmds::{EditError, EditRefusal, create};
 use tinkey_session::Session;
 
 /// The most random bytes that a line or the first keyset draws: 64 ids of four bytes, and a key of
@@ -27,7 +27,7 @@ const MOST_DRAWN: usize = 320;
 #[derive(Clone, Copy, Debug, PartialEq, Eq)]
 pub enum SelfTestFault {
     /// There is no first keyset.
-    Refused(CmdFault),
+    Refused(EditRefusal),
     /// Memory couldn't be allocated.
     NoMemory,
 }
@@ -54,9 +54,9 @@ fn first_keyset(alloc: Global, entropy: &mut MemEntropy) -> Result<Keyset, SelfT
     };
     match create(alloc, &template, entropy) {
         Ok(keyset) => Ok(keyset),
-        Err(CmdError::Refused(fault)) => Err(SelfTestFault::Refused(fault)),
-        Err(CmdError::NoMemory) => Err(SelfTestFault::NoMemory),
-        Err(CmdError::EntropyFault) => unreachable!(),
+        Err(EditError::Refused(fault)) => Err(SelfTestFault::Refused(fault)),
+        Err(EditError::NoMemory) => Err(SelfTestFault::NoMemory),
+        Err(EditError::EntropyFault) => unreachable!(),
     }
 }
 

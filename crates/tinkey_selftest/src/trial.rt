@@ -13,7 +13,7 @@ use keyset_model::{Keyset, Record};
 use managers::{KeyTable, Managers};
 use std::alloc::Global;
 use tink_base::{Bytes, ENABLED, MemEntropy, NoMemory};
-use tinkey_cmds::Command;
+use tinkey_cmds::KeysetEdit;
 use tinkey_session::{Line, LineFault, Reply, Session};
 
 /// With at least this many records no key is made.
@@ -115,12 +115,12 @@ fn grow_line(words: Words, keyset: &Keyset) -> Line<'static>
 {
     if keyset.len() >= MANY_RECORDS {
         let id = keyset.record_at(words.b as usize % MANY_RECORDS).id;
-        return Line::Edit(Command::Delete(id));
+        return Line::Edit(KeysetEdit::Delete(id));
     }
     if words.b % 2 == 0 {
-        Line::Edit(Command::Add(template_name(words)))
+        Line::Edit(KeysetEdit::Add(template_name(words)))
     } else {
-        Line::Edit(Command::Rotate(template_name(words)))
+        Line::Edit(KeysetEdit::Rotate(template_name(words)))
     }
 }
 
@@ -131,15 +131,15 @@ fn change_line(words: Words, keyset: &Keyset) -> Line<'static>
 {
     let key = keyset.record_at(words.b as usize % keyset.len());
     match words.c % 3 {
-        0 => Line::Edit(Command::Promote(key.id)),
+        0 => Line::Edit(KeysetEdit::Promote(key.id)),
         1 => {
             if key.status == ENABLED {
-                Line::Edit(Command::Disable(key.id))
+                Line::Edit(KeysetEdit::Disable(key.id))
             } else {
-                Line::Edit(Command::Enable(key.id))
+                Line::Edit(KeysetEdit::Enable(key.id))
             }
         }
-        _ => Line::Edit(Command::Delete(key.id)),
+        _ => Line::Edit(KeysetEdit::Delete(key.id)),
     }
 }
 

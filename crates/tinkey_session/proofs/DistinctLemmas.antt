@@ -16,7 +16,7 @@ use Rattle.tinkey_cmds.proofs.Changes.{changed-each, without-each}
 use Rattle.tinkey_cmds.proofs.Lists.{each-append}
 use Rattle.tinkey_cmds.specs.Edits.{Edit, EditOf, Stepped, Add, Rotate, Promote, Enable, Disable, Destroy, Delete, changed, destroyed, first, named, step, with_status, without}
 use Rattle.tinkey_cmds.specs.Laws.{IsFree}
-use Rattle.tinkey_cmds.specs.declared.command.CmdFault.{CmdFault}
+use Rattle.tinkey_cmds.specs.declared.command.EditRefusal.{EditRefusal}
 use Rattle.tinkey_session.proofs.KeptKeyLemmas.{kept_by_edits, one_prefix_one_id, passes_among}
 use Rattle.tinkey_session.proofs.Options.{clash}
 use Rattle.tinkey_session.specs.KeptKeys.{AllIdsStayDistinct, EachAccepted, EnablesNoOther, FirstsHaveDistinctIds, HasDistinctIds, IdsStayDistinct, KeptByItsId, NoOtherToEnable, Spares, SparesKey}
@@ -97,7 +97,7 @@ word_seven keys words =
     }
 
 -- what holds after an accepted edit and before it holds after any
-any_answer : (P : Keys → Type 0) (keys : Keys) (edit : Edit) (random : List ℕ) (s : Stepped) (answer : Result Keys CmdFault) → Seven keys (λ edit. P) → P keys → step keys edit random ≡ Some s → s.answer ≡ answer → P (kept keys answer)
+any_answer : (P : Keys → Type 0) (keys : Keys) (edit : Edit) (random : List ℕ) (s : Stepped) (answer : Result Keys EditRefusal) → Seven keys (λ edit. P) → P keys → step keys edit random ≡ Some s → s.answer ≡ answer → P (kept keys answer)
 any_answer P keys edit random s (Err fault) seven p e is = p
 any_answer P keys edit random s (Ok new) seven p e is = yielded P (step keys edit) random s new (edit_case keys (λ x. P) seven edit) e is
 
@@ -182,7 +182,7 @@ held_by_edit keys r prefix edit random s has held e spares = record {
   key = kept_by_edits keys r prefix edit random s (word_of_key keys r held.words held.key) has held.key e (both s.answer spares);
 }
   where
-    both : (answer : Result Keys CmdFault) → IfOk answer (λ new. Spares r.id edit) → IfOk answer (λ new. SparesKey r keys edit)
+    both : (answer : Result Keys EditRefusal) → IfOk answer (λ new. Spares r.id edit) → IfOk answer (λ new. SparesKey r keys edit)
     both (Ok new) spares = record { spares = spares; no_other = no_other keys r prefix edit held.apart held.words has held.key }
     both (Err fault) spares = tt
 

@@ -14,7 +14,7 @@ use Rattle.managers.specs.Uses.{iv_size, seal_of}
 use Rattle.tinkey_cmds.proofs.Fronts.{fronts-step}
 use Rattle.tinkey_cmds.specs.Edits.{Edit, EditOf, added, effect_of, grown, id_of, is_taken, new_id, new_record, record_of, refusal_of, rotated, step, unless_refused, with_key}
 use Rattle.tinkey_cmds.specs.Edits as edits
-use Rattle.tinkey_cmds.specs.declared.command.CmdFault.{CmdFault}
+use Rattle.tinkey_cmds.specs.declared.command.EditRefusal.{EditRefusal}
 use Rattle.tinkey_session.proofs.Options.{clash, map_some}
 use Rattle.tinkey_session.proofs.TurnLemmas.{asked_cases}
 use Rattle.tinkey_session.specs.LineLaws.{LinesDrawFronts, RefusalsLeave}
@@ -90,11 +90,11 @@ unfolding Fronts
 fronts-seal table keys plain ad None random x e = clash e
 fronts-seal table keys plain ad (Some r) random x e = fronts-under table keys plain ad r (key_of_record table Aead r) random x e
 
-served-left : (edit : Edit) (keys : Keys) (answer : Result Keys CmdFault) (left more : List ℕ) → edit_served edit keys answer more ≡ record (edit_served edit keys answer left) { left = more }
+served-left : (edit : Edit) (keys : Keys) (answer : Result Keys EditRefusal) (left more : List ℕ) → edit_served edit keys answer more ≡ record (edit_served edit keys answer left) { left = more }
 served-left edit keys (Ok edited) left more = refl
 served-left edit keys (Err fault) left more = refl
 
-pub served_left : (edit : Edit) (keys : Keys) (answer : Result Keys CmdFault) (left : List ℕ) → left ≡ (edit_served edit keys answer left).left
+pub served_left : (edit : Edit) (keys : Keys) (answer : Result Keys EditRefusal) (left : List ℕ) → left ≡ (edit_served edit keys answer left).left
 served_left edit keys (Ok edited) left = refl
 served_left edit keys (Err fault) left = refl
 
@@ -187,7 +187,7 @@ edit_accepts (edits.Disable id) keys why e = absurd cc
 edit_accepts (edits.Destroy id) keys why e = absurd cc
 edit_accepts (edits.Delete id) keys why e = absurd cc
 
-keeps-served : (edit : Edit) (keys : Keys) (answer : Result Keys CmdFault) (left : List ℕ) → KeepsRefused keys (edit_served edit keys answer left)
+keeps-served : (edit : Edit) (keys : Keys) (answer : Result Keys EditRefusal) (left : List ℕ) → KeepsRefused keys (edit_served edit keys answer left)
 unfolding KeepsRefused
 keeps-served edit keys (Ok edited) left why is = edit_accepts edit edited why is
 keeps-served edit keys (Err fault) left why is = refl

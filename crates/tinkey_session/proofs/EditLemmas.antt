@@ -8,7 +8,7 @@ use Rattle.key_msgs.specs.declared.template.Template.{Template}
 use Rattle.keyset_model.specs.Keyset.{Keys}
 use Rattle.keyset_model.specs.declared.record.Record.{Record}
 use Rattle.tinkey_cmds.specs.Edits.{Edit, EditOf, Add, Rotate, Promote, Enable, Disable, Destroy, Delete}
-use Rattle.tinkey_cmds.specs.declared.command.Command.{Command}
+use Rattle.tinkey_cmds.specs.declared.command.KeysetEdit.{KeysetEdit}
 use Rattle.tinkey_session.proofs.Options.{clash}
 use Rattle.tinkey_session.specs.Keeping.{Asks, FindsEdit, IsUnedited, needs}
 use Rattle.tinkey_session.specs.Lines.{Line, Edit as AsksEdit}
@@ -59,7 +59,7 @@ last_there (x ∷ rs) r n count there = last_at (x ∷ rs) r (n - 1) (omega arit
 
 -- ---- the edits that lines ask for
 
-pub asks_named : (asked : EditOf (List ℕ)) (command : Command Template) → FindsEdit asked (Ok command) → Asks (AsksEdit asked) (Ok command)
+pub asks_named : (asked : EditOf (List ℕ)) (command : KeysetEdit Template) → FindsEdit asked (Ok command) → Asks (AsksEdit asked) (Ok command)
 unfolding serve
 asks_named asked command is = λ table keys random. ap (λ found. or_refused (refused_line keys random) found (edit_line keys random)) is
 
@@ -68,16 +68,16 @@ unfolding serve
 asks_unnamed asked why is = λ table keys random. ap (λ found. or_refused (refused_line keys random) found (edit_line keys random)) is
 
 -- what a `?` hands on
-pub finds_none : (asked : EditOf (List ℕ)) (why : Refusal) (result : Result (Command Template) Refusal) → IsErrAnd result (λ e. e ≡ why) → FindsEdit asked (Err why) → FindsEdit asked result
+pub finds_none : (asked : EditOf (List ℕ)) (why : Refusal) (result : Result (KeysetEdit Template) Refusal) → IsErrAnd result (λ e. e ≡ why) → FindsEdit asked (Err why) → FindsEdit asked result
 finds_none asked why (Ok command) is none = absurd is
 finds_none asked why (Err e) is none = none ∙ ap Err (sym is)
 
-pub asks_error : (line : Line) (why : LineRefusal) (result : Result (Command Template) LineRefusal) → IsErrAnd result (λ e. e ≡ why) → Asks line (Err why) → Asks line result
+pub asks_error : (line : Line) (why : LineRefusal) (result : Result (KeysetEdit Template) LineRefusal) → IsErrAnd result (λ e. e ≡ why) → Asks line (Err why) → Asks line result
 asks_error line why (Ok command) is asks = absurd is
 asks_error line why (Err e) is asks = subst (λ w. Asks line (Err w)) (sym is) asks
 
 -- a line that needs no keys and isn't an edit is bad
-pub asks_nothing : (line : CodeLine) → needs (seen_line line) ≡ None → ((edit : Command (Bor (List ℕ))) → line ≡ lines.Edit edit → ⊥)
+pub asks_nothing : (line : CodeLine) → needs (seen_line line) ≡ None → ((edit : KeysetEdit (Bor (List ℕ))) → line ≡ lines.Edit edit → ⊥)
     → Asks (seen_line line) (Err BadLine)
 unfolding serve
 asks_nothing (lines.Seal plain ad) keyless none = clash (sym keyless)

@@ -13,7 +13,7 @@ use Rattle.tinkey_cmds.proofs.Among.{Among, among-all, among-slice_get, find-amo
 use Rattle.tinkey_cmds.proofs.Cases.{Seven, edit_case, yielded}
 use Rattle.tinkey_cmds.proofs.Changes.{find-id}
 use Rattle.tinkey_cmds.specs.Edits.{Edit, Stepped, Enable, changed, destroyed, named, step, with_status, without}
-use Rattle.tinkey_cmds.specs.declared.command.CmdFault.{CmdFault}
+use Rattle.tinkey_cmds.specs.declared.command.EditRefusal.{EditRefusal}
 use Rattle.tinkey_session.proofs.DistinctLemmas.{ids, ids_stay_distinct, not_apart, one_id_one_record, words_stay}
 use Rattle.tinkey_session.proofs.KeptKeyLemmas.{one_prefix_one_id, same_prefix_is}
 use Rattle.tinkey_session.proofs.Options.{clash}
@@ -139,7 +139,7 @@ data_seven keys r h =
       delete = λ id x e other spares. data_of r _ h.other (others_there destroyed id keys.records h.other (λ is. spares (sym is ∙ own)) there).1 h.data';
     }
 
-data_answer : (keys : Keys) (r : Record) (edit : Edit) (random : List ℕ) (s : Stepped) (answer : Result Keys CmdFault) → HasData r keys → step keys edit random ≡ Some s → s.answer ≡ answer → IfOk answer (λ new. SparesData r.id edit) → HasData r (kept keys answer)
+data_answer : (keys : Keys) (r : Record) (edit : Edit) (random : List ℕ) (s : Stepped) (answer : Result Keys EditRefusal) → HasData r keys → step keys edit random ≡ Some s → s.answer ≡ answer → IfOk answer (λ new. SparesData r.id edit) → HasData r (kept keys answer)
 unfolding StaysData
 data_answer keys r edit random s (Err fault) h e is spares = h
 data_answer keys r edit random s (Ok new) h e is spares = yielded (StaysData r edit) (step keys edit) random s new (edit_case keys (StaysData r) (data_seven keys r h) edit) e is spares

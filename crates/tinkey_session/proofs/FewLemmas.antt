@@ -24,8 +24,8 @@ use Rattle.tinkey_cmds.specs.Draws.{Draw, Drawn, and_then, answered as answers, 
 use Rattle.tinkey_cmds.specs.Edits.{Edit, EditOf, added, alone, effect_of, grown, id_of, is_taken, new_id, new_record, record_of, refusal_of, rotated, step, unless_refused, with_key}
 use Rattle.tinkey_cmds.specs.Edits as edits
 use Rattle.tinkey_cmds.specs.Laws.{HasTemplate, IsTemplate}
-use Rattle.tinkey_cmds.specs.declared.command.CmdFault.{CmdFault}
-use Rattle.tinkey_cmds.specs.declared.command.CmdFault.TheVariants.{IdsExhausted}
+use Rattle.tinkey_cmds.specs.declared.command.EditRefusal.{EditRefusal}
+use Rattle.tinkey_cmds.specs.declared.command.EditRefusal.TheVariants.{IdsExhausted}
 use Rattle.tinkey_session.proofs.DrawLemmas.{served_left}
 use Rattle.tinkey_session.proofs.Options.{clash}
 use Rattle.tinkey_session.proofs.TurnLemmas.{asked_cases}
@@ -47,7 +47,7 @@ use Rattle.wrapped_prims.specs.Fitness.{Unfit, fault_of_record, first_of_three, 
 pub Takes : {A : Type 0} → ℕ → Draw A → Type 0
 Takes {A} count give = (random : List ℕ) → count ≤ length random → (s : Drawn A) × (give random ≡ Some s) × (length random ≤ length s.left + count)
 
-takes-answered : {A : Type 0} (answer : Result A CmdFault) → Takes 0 (answers answer)
+takes-answered : {A : Type 0} (answer : Result A EditRefusal) → Takes 0 (answers answer)
 unfolding Takes
 takes-answered answer random enough = (record { answer = answer; left = random }, refl, omega arith)
 
@@ -66,7 +66,7 @@ takes-more count more give le takes random enough =
     let few = there.2 in
     (there.0, there.1, omega (arith, le, few))
 
-takes_next : {A B : Type 0} (first second : ℕ) (next : A → Draw B) → ((x : A) → Takes second (next x)) → (random : List ℕ) (answer : Result A CmdFault) (left : List ℕ)
+takes_next : {A B : Type 0} (first second : ℕ) (next : A → Draw B) → ((x : A) → Takes second (next x)) → (random : List ℕ) (answer : Result A EditRefusal) (left : List ℕ)
     → length random ≤ length left + first → first + second ≤ length random → (s : Drawn B) × (unless_err answer left next ≡ Some s) × (length random ≤ length s.left + (first + second))
 unfolding Takes
 takes_next first second next each random (Err fault) left few enough = (record { answer = Err fault; left = left }, refl, omega (arith, few))
@@ -101,7 +101,7 @@ takes-grown keys_with row records is =
     takes-and_then (random_of row) 0 (fill (random_of row)) _ (takes-fill (random_of row)) (λ key. takes-answered (Ok (record_of row id key)))))
     (λ r. takes-answered (Ok (keys_with r))))
 
-takes-settled : {A : Type 0} (answer : Result A CmdFault) → Takes 320 (answers answer)
+takes-settled : {A : Type 0} (answer : Result A EditRefusal) → Takes 320 (answers answer)
 takes-settled answer = takes-more 0 320 _ (omega arith) (takes-answered answer)
 
 takes-effect : (keys : Keys) (edit : Edit) → HasTemplate edit → Takes 320 (effect_of keys edit)
@@ -114,7 +114,7 @@ takes-effect keys (edits.Disable id) is = takes-settled _
 takes-effect keys (edits.Destroy id) is = takes-settled _
 takes-effect keys (edits.Delete id) is = takes-settled _
 
-takes-unless : (refusal : Option CmdFault) (effect : Draw Keys) → Takes 320 effect → Takes 320 (unless_refused refusal effect)
+takes-unless : (refusal : Option EditRefusal) (effect : Draw Keys) → Takes 320 effect → Takes 320 (unless_refused refusal effect)
 takes-unless (Some fault) effect takes = takes-settled (Err fault)
 takes-unless None effect takes = takes
 

@@ -21,8 +21,8 @@ use Rattle.tinkey_session.specs.declared.session.LineFault.{LineFault}
 use Rattle.tinkey_session.specs.declared.session.LineFault.TheVariants as line_faults
 use Rattle.wrapped_prims.specs.Fitness.{Unfit, unfit}
 use Rattle.wrapped_prims.specs.Making.{IsFaultOf, IsOver}
-use Rattle.wrapped_prims.specs.declared.handle.HandleFault.{HandleFault}
-use Rattle.wrapped_prims.specs.declared.handle.HandleFault.TheVariants as faults
+use Rattle.wrapped_prims.specs.declared.handle.HandleError.{HandleError}
+use Rattle.wrapped_prims.specs.declared.handle.HandleError.TheVariants as faults
 use Rattle.wrapped_prims.specs.declared.held.Held.{Held}
 
 -- ---- keysets that can't serve
@@ -49,13 +49,13 @@ abbrev pub unserved : Option Refusal → Result Reply LineFault
 unserved (Some why) = Ok (Refuses (Refused why))
 unserved None = Err line_faults.NoMemory
 
-fault_served : (line : Line) (primitive : Primitive) (table : Table) (keys : Keys) (fault : HandleFault) (e : EntropyState) → needs line ≡ Some primitive → IsFaultOf (unfit keys primitive table) fault → Serves (serve table keys line) (unserved (refusal_in fault)) keys e e
+fault_served : (line : Line) (primitive : Primitive) (table : Table) (keys : Keys) (fault : HandleError) (e : EntropyState) → needs line ≡ Some primitive → IsFaultOf (unfit keys primitive table) fault → Serves (serve table keys line) (unserved (refusal_in fault)) keys e e
 fault_served line primitive table keys (faults.NoManager i) e is fault = undrawn (serve table keys line) (Refuses (Refused (refusals.NoManager i))) keys e (λ random. unfit_served line primitive table keys random _ is fault)
 fault_served line primitive table keys (faults.BadKey i rule) e is fault = undrawn (serve table keys line) (Refuses (Refused (refusals.BadKey i rule))) keys e (λ random. unfit_served line primitive table keys random _ is fault)
 fault_served line primitive table keys (faults.NotRaw i) e is fault = undrawn (serve table keys line) (Refuses (Refused (refusals.NotRaw i))) keys e (λ random. unfit_served line primitive table keys random _ is fault)
 fault_served line primitive table keys faults.NoMemory e is fault = starved (serve table keys line) keys e
 
-pub fit_refused : (line : Line) (primitive : Primitive) (table : Table) (keys : Keys) (fault : HandleFault) (o : Option Refusal) (e : EntropyState) → needs line ≡ Some primitive → IsFaultOf (unfit keys primitive table) fault → o ≡ refusal_in fault → Serves (serve table keys line) (unserved o) keys e e
+pub fit_refused : (line : Line) (primitive : Primitive) (table : Table) (keys : Keys) (fault : HandleError) (o : Option Refusal) (e : EntropyState) → needs line ≡ Some primitive → IsFaultOf (unfit keys primitive table) fault → o ≡ refusal_in fault → Serves (serve table keys line) (unserved o) keys e e
 fit_refused line primitive table keys fault o e is unfits told = subst (λ o. Serves (serve table keys line) (unserved o) keys e e) (sym told) (fault_served line primitive table keys fault e is unfits)
 
 -- ---- a handle that is kept

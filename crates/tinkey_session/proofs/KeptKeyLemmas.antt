@@ -15,7 +15,7 @@ use Rattle.tinkey_cmds.proofs.Cases.{Seven, edit_case, yielded}
 use Rattle.tinkey_cmds.proofs.Changes.{find-id}
 use Rattle.tinkey_cmds.specs.Edits.{Edit, Stepped, changed, destroyed, named, step, with_status, without}
 use Rattle.tinkey_cmds.specs.Laws.{IsFree}
-use Rattle.tinkey_cmds.specs.declared.command.CmdFault.{CmdFault}
+use Rattle.tinkey_cmds.specs.declared.command.EditRefusal.{EditRefusal}
 use Rattle.tinkey_session.proofs.Options.{clash, no_truth}
 use Rattle.tinkey_session.specs.KeptKeys.{EachAccepted, KeptByAllEdits, KeptByEdits, SparesKey}
 use Rattle.tinkey_session.specs.Laws.{Asked, after, kept}
@@ -157,7 +157,7 @@ accepted_keeps keys new r prefix edit random s word has key spares e ok =
       same = key.same;
     }
 
-answer_keeps : (keys : Keys) (r : Record) (prefix : List ℕ) (edit : Edit) (random : List ℕ) (s : Stepped) (answer : Result Keys CmdFault) → HasWordId r → prefix_of r ≡ Some prefix → HasSameKey r keys
+answer_keeps : (keys : Keys) (r : Record) (prefix : List ℕ) (edit : Edit) (random : List ℕ) (s : Stepped) (answer : Result Keys EditRefusal) → HasWordId r → prefix_of r ≡ Some prefix → HasSameKey r keys
     → step keys edit random ≡ Some s → s.answer ≡ answer → IfOk answer (λ new. SparesKey r keys edit) → HasSameKey r (kept keys answer)
 answer_keeps keys r prefix edit random s (Err fault) word has key e is spares = key
 answer_keeps keys r prefix edit random s (Ok new) word has key e is spares = accepted_keeps keys new r prefix edit random s word has key spares e is
@@ -166,7 +166,7 @@ pub kept_by_edits : KeptByEdits
 kept_by_edits keys r prefix edit random s word has key e spares = answer_keeps keys r prefix edit random s s.answer word has key e refl spares
 
 -- what holds of an edit holds where it is accepted
-pub if_ok : {P : Type 0} (answer : Result Keys CmdFault) → P → IfOk answer (λ new. P)
+pub if_ok : {P : Type 0} (answer : Result Keys EditRefusal) → P → IfOk answer (λ new. P)
 if_ok (Ok new) p = p
 if_ok (Err fault) p = tt
 

@@ -7,7 +7,7 @@ use Rattle.keyset_model.specs.declared.record.Record.{Record}
 use Rattle.tinkey_cmds.proofs.Cases.{edit_case, yielded}
 use Rattle.tinkey_cmds.specs.Edits.{Edit, Stepped, step}
 use Rattle.tinkey_cmds.specs.Edits as edits
-use Rattle.tinkey_cmds.specs.declared.command.CmdFault.{CmdFault}
+use Rattle.tinkey_cmds.specs.declared.command.EditRefusal.{EditRefusal}
 use Rattle.tinkey_session.proofs.Options.{map_some}
 use Rattle.tinkey_session.specs.LineLaws.{TellsNewId}
 use Rattle.tinkey_session.specs.Serving.{Served, edit_line, edit_served, edited_reply, last_id, or_refused, refused_line, serve, stepped, template_of}
@@ -51,7 +51,7 @@ IsTold keys x = ((why : Refusal) × (x.reply ≡ Refuses (Refused why)))
 abbrev TellsLast : Edit → Type 0
 TellsLast edit = (keys : Keys) → edited_reply edit keys ≡ last_id keys.records
 
-told-served : (edit : Edit) (keys : Keys) (answer : Result Keys CmdFault) (left : List ℕ) → TellsLast edit
+told-served : (edit : Edit) (keys : Keys) (answer : Result Keys EditRefusal) (left : List ℕ) → TellsLast edit
     → ((new : Keys) → answer ≡ Ok new → HasOneMore keys new) → IsTold keys (edit_served edit keys answer left)
 told-served edit keys (Err fault) left tells grown = inl (Command fault, refl)
 told-served edit keys (Ok new) left tells grown =

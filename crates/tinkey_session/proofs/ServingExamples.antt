@@ -6,7 +6,7 @@ use Rattle.keyset_model.specs.Keyset.{Keys, first_some, when}
 use Rattle.keyset_model.specs.declared.record.Record.{Record}
 use Rattle.managers.specs.Standard.{standard_table}
 use Rattle.tinkey_cmds.specs.Edits.{Add, Rotate, Disable, Delete, changed, effect_of, full_or_mixed, new_id, of_named, refusal_of}
-use Rattle.tinkey_cmds.specs.declared.command.CmdFault.TheVariants.{IdsExhausted, KeyIsPrimary, KeyNotFound, MixedPrimitive}
+use Rattle.tinkey_cmds.specs.declared.command.EditRefusal.TheVariants.{IdsExhausted, KeyIsPrimary, KeyNotFound, MixedPrimitive}
 use Rattle.tinkey_session.specs.Lines.{Line, Edit, Bad}
 use Rattle.tinkey_session.specs.Serving.{Served, answered, serve}
 use Rattle.tinkey_session.specs.declared.reply.LineRefusal.{LineRefusal}

@@ -18,7 +18,7 @@ use Rattle.tinkey_cmds.proofs.Kept.{IsKept, each-first, each-kept, edits_keep_ke
 use Rattle.tinkey_cmds.proofs.Lists.{each-append}
 use Rattle.tinkey_cmds.specs.Edits.{Edit, Stepped, destroyed, first, is_same, primary_primitive, primitive_of, step, with_status}
 use Rattle.tinkey_cmds.specs.Laws.{HasTemplate, IsTemplate}
-use Rattle.tinkey_cmds.specs.declared.command.CmdFault.{CmdFault}
+use Rattle.tinkey_cmds.specs.declared.command.EditRefusal.{EditRefusal}
 use Rattle.tinkey_session.proofs.MadeLemmas.{made_key}
 use Rattle.tinkey_session.proofs.Options.{clash, no_truth}
 use Rattle.tinkey_session.specs.Laws.{Asked, EditedIsKeyset, EditedIsSound, EditsKeepSound, FirstsAreSound, IsAsked, IsKeyFor, IsSound, IsUsable, after, kept}
@@ -131,7 +131,7 @@ firsts_are_sound law new row random s is e ok = record {
 abbrev IsKeptBy : (Keys → Type 0) → Type 0
 IsKeptBy P = (old new : Keys) (edit : Edit) (random : List ℕ) (s : Stepped) → HasTemplate edit → P old → step old edit random ≡ Some s → s.answer ≡ Ok new → P new
 
-kept_one : (P : Keys → Type 0) → IsKeptBy P → (old : Keys) (edit : Edit) (random : List ℕ) (s : Stepped) (answer : Result Keys CmdFault) → HasTemplate edit → P old
+kept_one : (P : Keys → Type 0) → IsKeptBy P → (old : Keys) (edit : Edit) (random : List ℕ) (s : Stepped) (answer : Result Keys EditRefusal) → HasTemplate edit → P old
     → step old edit random ≡ Some s → s.answer ≡ answer → P (kept old answer)
 kept_one P each old edit random s (Err fault) is p e a = p
 kept_one P each old edit random s (Ok new) is p e a = each old new edit random s is p e a

@@ -21,8 +21,8 @@ use Rattle.tinkey_cmds.proofs.Lists.{each-append}
 use Rattle.tinkey_cmds.specs.Draws.{Draw, Drawn, and_then, answered, fill, unless_err}
 use Rattle.tinkey_cmds.specs.Edits.{Edit, Add, Rotate, Promote, Enable, Disable, Destroy, Delete, Stepped, added, alone, destroyed, effect_of, first, full_or_mixed, grown, id_of, is_taken, new_id, named, new_record, record_of, refusal_of, rotated, step, unless_refused, with_key, with_status}
 use Rattle.tinkey_cmds.specs.Laws.{HasTemplate, IsTemplate}
-use Rattle.tinkey_cmds.specs.declared.command.CmdFault.{CmdFault}
-use Rattle.tinkey_cmds.specs.declared.command.CmdFault.TheVariants.{IdsExhausted}
+use Rattle.tinkey_cmds.specs.declared.command.EditRefusal.{EditRefusal}
+use Rattle.tinkey_cmds.specs.declared.command.EditRefusal.TheVariants.{IdsExhausted}
 use Rattle.tinkey_session.proofs.DrawLemmas.{lines_draw_fronts}
 use Rattle.tinkey_session.proofs.Options.{clash, map_some}
 use Rattle.tinkey_session.proofs.TurnLemmas.{serve_leaves}
@@ -51,12 +51,12 @@ byte_there (b ∷ bytes) h (suc i) = byte_there bytes h.1 i
 YieldsOf : {A : Type 0} → (A → Type 0) → Draw A → Type 0
 YieldsOf {A} P give = (random : List ℕ) (s : Drawn A) → AreBytes random → give random ≡ Some s → IfOk s.answer P × AreBytes s.left
 
-yields-answered : {A : Type 0} (P : A → Type 0) (answer : Result A CmdFault) → IfOk answer P → YieldsOf P (answered answer)
+yields-answered : {A : Type 0} (P : A → Type 0) (answer : Result A EditRefusal) → IfOk answer P → YieldsOf P (answered answer)
 unfolding YieldsOf
 yields-answered P answer has random s h e = subst (λ d. IfOk d.answer P × AreBytes d.left) (same_Some _ _ e) (has, h)
 
 yields-next : {A B : Type 0} (P : A → Type 0) (Q : B → Type 0) (next : A → Draw B) (s : Drawn B) → ((x : A) → P x → YieldsOf Q (next x))
-    → (answer : Result A CmdFault) (left : List ℕ) → IfOk answer P → AreBytes left → unless_err answer left next ≡ Some s → IfOk s.answer Q × AreBytes s.left
+    → (answer : Result A EditRefusal) (left : List ℕ) → IfOk answer P → AreBytes left → unless_err answer left next ≡ Some s → IfOk s.answer Q × AreBytes s.left
 unfolding YieldsOf
 yields-next P Q next s each (Err fault) left has h e = subst (λ d. IfOk d.answer Q × AreBytes d.left) (same_Some _ _ e) (tt, h)
 yields-next P Q next s each (Ok x) left has h e = each x has left s h e
@@ -107,7 +107,7 @@ yields-grown : (keys_with : Record → Keys) (row : Row) (records : List Record)
 yields-grown keys_with row records is each = yields-and_then HasValue HaveValues (new_record row records) _ (yields-new_record row records is)
     (λ r value. yields-answered HaveValues (Ok (keys_with r)) (each r value))
 
-yields-unless : (refusal : Option CmdFault) (effect : Draw Keys) → YieldsOf HaveValues effect → YieldsOf HaveValues (unless_refused refusal effect)
+yields-unless : (refusal : Option EditRefusal) (effect : Draw Keys) → YieldsOf HaveValues effect → YieldsOf HaveValues (unless_refused refusal effect)
 yields-unless (Some fault) effect has = yields-answered HaveValues (Err fault) tt
 yields-unless None effect has = has
 
@@ -185,7 +185,7 @@ firsts_are_stored new row random s is h e ok = each_stored new.records
 
 -- ---- sessions
 
-answered_stored : (edit : Edit) (keys : Keys) (answer : Result Keys CmdFault) (left : List ℕ) → AreStored keys → ((new : Keys) → answer ≡ Ok new → AreStored new) → AreStored (edit_served edit keys answer left).keys
+answered_stored : (edit : Edit) (keys : Keys) (answer : Result Keys EditRefusal) (left : List ℕ) → AreStored keys → ((new : Keys) → answer ≡ Ok new → AreStored new) → AreStored (edit_served edit keys answer left).keys
 answered_stored edit keys (Ok edited) left stored each = each edited refl
 answered_stored edit keys (Err fault) left stored each = stored
 

@@ -14,7 +14,7 @@ use Rattle.tinkey_cmds.proofs.Lists.{each-append}
 use Rattle.tinkey_cmds.specs.Edits.{Edit, EditOf, Stepped, step}
 use Rattle.tinkey_cmds.specs.Edits as edits
 use Rattle.tinkey_cmds.specs.Laws.{HasTemplate, IsTemplate}
-use Rattle.tinkey_cmds.specs.declared.command.CmdFault.{CmdFault}
+use Rattle.tinkey_cmds.specs.declared.command.EditRefusal.{EditRefusal}
 use Rattle.tinkey_session.proofs.Options.{clash, map_some}
 use Rattle.tinkey_session.specs.Laws.{Asked, IsAsked, IsEdited, after, kept}
 use Rattle.tinkey_session.specs.SessionLaws.{SessionIsEdits}
@@ -50,7 +50,7 @@ edited_on old mid new a b = record {
   last = after-append a.edits b.edits old mid a.last ∙ b.last;
 }
 
-pub served_keys : (edit : Edit) (keys : Keys) (answer : Result Keys CmdFault) (left : List ℕ) → kept keys answer ≡ (edit_served edit keys answer left).keys
+pub served_keys : (edit : Edit) (keys : Keys) (answer : Result Keys EditRefusal) (left : List ℕ) → kept keys answer ≡ (edit_served edit keys answer left).keys
 served_keys edit keys (Ok edited) left = refl
 served_keys edit keys (Err fault) left = refl
 

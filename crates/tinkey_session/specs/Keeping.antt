@@ -11,7 +11,7 @@ use Rattle.managers.specs.Table.{Table}
 use Rattle.tink_spec.specs.Outside.{EntropyState}
 use Rattle.tinkey_cmds.specs.Edits.{Edit, EditOf, seen_edit}
 use Rattle.tinkey_cmds.specs.Laws.{LeavesOthers}
-use Rattle.tinkey_cmds.specs.declared.command.Command.{Command}
+use Rattle.tinkey_cmds.specs.declared.command.KeysetEdit.{KeysetEdit}
 use Rattle.tinkey_session.specs.Answered.{Serves}
 use Rattle.tinkey_session.specs.Lines.{Line, Seal, Dseal, Open, Dopen, Reseal, Dreseal, Tag, Verify, Derive}
 use Rattle.tinkey_session.specs.Serving.{answered, edit_line, edit_named, serve}
@@ -26,8 +26,8 @@ use Rattle.tinkey_session.specs.declared.session.Change.TheVariants.{Grows, At, 
 use Rattle.tinkey_session.specs.declared.session.LineFault.{LineFault}
 use Rattle.wrapped_prims.specs.Following.{BeginsWith, ChangesAt, LosesAt}
 use Rattle.wrapped_prims.specs.Making.{IsOver}
-use Rattle.wrapped_prims.specs.declared.handle.HandleFault.{HandleFault}
-use Rattle.wrapped_prims.specs.declared.handle.HandleFault.TheVariants as faults
+use Rattle.wrapped_prims.specs.declared.handle.HandleError.{HandleError}
+use Rattle.wrapped_prims.specs.declared.handle.HandleError.TheVariants as faults
 use Rattle.wrapped_prims.specs.declared.held.Held.{Held}
 
 -- the primitive of the keys that answer a line. Edits and bad lines need no keys.
@@ -83,12 +83,12 @@ IsChange keys edit change = (edited : Keys) → LeavesOthers keys edit edited
     → IsChanged change keys.records edited.records
 
 -- the edit that is asked for by the name of a template or an id was found, or is refused
-abbrev pub FindsEdit : EditOf (List ℕ) → Result (Command Template) Refusal → Type 0
+abbrev pub FindsEdit : EditOf (List ℕ) → Result (KeysetEdit Template) Refusal → Type 0
 FindsEdit asked (Ok command) = edit_named asked ≡ Ok (seen_edit command)
 FindsEdit asked (Err why) = edit_named asked ≡ Err why
 
 -- the edit that a line asks for, or why it is refused, over any keyset
-abbrev pub Asks : Line → Result (Command Template) LineRefusal → Type 0
+abbrev pub Asks : Line → Result (KeysetEdit Template) LineRefusal → Type 0
 Asks line (Ok command) = (table : Table) (keys : Keys) (random : List ℕ)
     → serve table keys line random ≡ edit_line keys random (seen_edit command)
 Asks line (Err why) = (table : Table) (keys : Keys) (random : List ℕ)
@@ -103,7 +103,7 @@ IsUnedited (Ok (replies.Refuses why)) = Unit {0}
 IsUnedited (Err fault) = Unit {0}
 
 -- why a keyset can't serve, as the fault of its handle says; none where memory was refused
-abbrev pub refusal_in : HandleFault → Option Refusal
+abbrev pub refusal_in : HandleError → Option Refusal
 refusal_in (faults.NoManager i) = Some (refusals.NoManager i)
 refusal_in (faults.BadKey i rule) = Some (refusals.BadKey i rule)
 refusal_in (faults.NotRaw i) = Some (refusals.NotRaw i)

@@ -14,7 +14,7 @@ use Rattle.keyset_model.specs.declared.record.Record.{Record}
 use Rattle.managers.specs.Standard.{standard_table}
 use Rattle.tinkey_cmds.specs.Edits.{Edit, Stepped, first, primitive_of, rule_of, step}
 use Rattle.tinkey_cmds.specs.Laws.{HasTemplate, IsTemplate}
-use Rattle.tinkey_cmds.specs.declared.command.CmdFault.{CmdFault}
+use Rattle.tinkey_cmds.specs.declared.command.EditRefusal.{EditRefusal}
 use Rattle.wrapped_prims.specs.Answers.{Sealed, dopen_answer, dseal_answer, open_answer, seal_answer, tag_answer, verify_answer}
 use Rattle.wrapped_prims.specs.Candidates.{prefix_of}
 use Rattle.wrapped_prims.specs.Fitness.{unfit}
@@ -67,7 +67,7 @@ abbrev pub IsAsked : Asked → Type 0
 IsAsked asked = HasTemplate asked.edit
 
 -- the keyset after an edit, the same where it was refused
-abbrev pub kept : Keys → Result Keys CmdFault → Keys
+abbrev pub kept : Keys → Result Keys EditRefusal → Keys
 kept keys (Ok edited) = edited
 kept keys (Err fault) = keys
 

@@ -15,7 +15,7 @@ use Rattle.keyset_model.specs.declared.record.Record.{Record}
 use Rattle.managers.specs.Table.{Table}
 use Rattle.tinkey_cmds.specs.Edits.{Edit, EditOf, Stepped, edit_then, step}
 use Rattle.tinkey_cmds.specs.Edits as edits
-use Rattle.tinkey_cmds.specs.declared.command.CmdFault.{CmdFault}
+use Rattle.tinkey_cmds.specs.declared.command.EditRefusal.{EditRefusal}
 use Rattle.tinkey_session.specs.Lines.{Line, Seal, Dseal, Open, Dopen, Reseal, Dreseal, Tag, Verify, Derive, Edit as AsksEdit, Bad}
 use Rattle.tinkey_session.specs.declared.reply.Refusal.{Refusal}
 use Rattle.tinkey_session.specs.declared.reply.Refusal.TheVariants.{AsymmetricTemplate, Command, OutputTooLong, UnknownTemplate, VerifyFailed}
@@ -104,7 +104,7 @@ edited_reply (edits.Rotate row) keys = last_id keys.records
 edited_reply edit keys = Done
 
 -- a refused edit leaves the keyset
-abbrev pub edit_served : Edit → Keys → Result Keys CmdFault → (left : List ℕ) → Served
+abbrev pub edit_served : Edit → Keys → Result Keys EditRefusal → (left : List ℕ) → Served
 edit_served edit keys (Ok edited) left = answered edited left (edited_reply edit edited)
 edit_served edit keys (Err fault) left = answered keys left (Refuses (Refused (Command fault)))
 

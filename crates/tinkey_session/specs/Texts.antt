@@ -4,8 +4,8 @@ use Rattle.std.specs.Prelude.{ℕ, List, ◌++◌, codes}
 use Rattle.std.specs.Fmt.{decimal}
 use Rattle.key_msgs.specs.declared.rule.Rule.{Rule}
 use Rattle.key_msgs.specs.declared.rule.Rule.TheVariants as broken
-use Rattle.tinkey_cmds.specs.declared.command.CmdFault.{CmdFault}
-use Rattle.tinkey_cmds.specs.declared.command.CmdFault.TheVariants as refused
+use Rattle.tinkey_cmds.specs.declared.command.EditRefusal.{EditRefusal}
+use Rattle.tinkey_cmds.specs.declared.command.EditRefusal.TheVariants as refused
 use Rattle.tinkey_session.specs.Lines.{word_of}
 use Rattle.tinkey_session.specs.declared.reply.Refusal.{Refusal}
 use Rattle.tinkey_session.specs.declared.reply.Refusal.TheVariants.{AsymmetricTemplate, BadKey, Command, NoManager, NotRaw, OutputTooLong, UnknownTemplate, VerifyFailed}
@@ -26,7 +26,7 @@ rule_text broken.DerivedSize = codes "derived size"
 rule_text broken.Segment = codes "segment size"
 
 -- the text of a refused edit
-unfoldable pub edit_text : CmdFault → List ℕ
+unfoldable pub edit_text : EditRefusal → List ℕ
 edit_text refused.KeyNotFound = codes "key not found"
 edit_text refused.KeyIsPrimary = codes "key is primary"
 edit_text refused.KeyNotEnabled = codes "key is not enabled"

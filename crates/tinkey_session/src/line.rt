@@ -9,7 +9,7 @@ use hex_lanes::decode;
 use std::alloc::Global;
 use std::str::from_utf8;
 use tink_base::{Bytes, NoMemory, number_in};
-use tinkey_cmds::Command;
+use tinkey_cmds::KeysetEdit;
 
 /// What a line asks for.
 #[derive(Drop)]
@@ -33,7 +33,7 @@ pub enum Line<'a> {
     /// Derive this many bytes from this input.
     Derive(u32, Bytes),
     /// Edit the keyset, by the name of a template, known or not, or by a key id.
-    Edit(Command<&'a str>),
+    Edit(KeysetEdit<&'a str>),
     /// Not a line of the grammar.
     Bad,
 }
@@ -77,11 +77,11 @@ fn line_with_one<'a>(alloc: Global, name: &str, word: &'a str) -> Result<Line<'a
             None => Line::Bad,
         },
         "add" => match name_in(word) {
-            Some(template) => Line::Edit(Command::Add(template)),
+            Some(template) => Line::Edit(KeysetEdit::Add(template)),
             None => Line::Bad,
         },
         "rotate" => match name_in(word) {
-            Some(template) => Line::Edit(Command::Rotate(template)),
+            Some(template) => Line::Edit(KeysetEdit::Rotate(template)),
             None => Line::Bad,
         },
         _ => match number_in(word) {
@@ -96,11 +96,11 @@ fn line_with_id<'a>(name: &str, id: u32) -> Line<'a>
     ensures { seen_line result ≡ line_with_id name.now id }
 {
     match name {
-        "promote" => Line::Edit(Command::Promote(id)),
-        "enable" => Line::Edit(Command::Enable(id)),
-        "disable" => Line::Edit(Command::Disable(id)),
-        "destroy" => Line::Edit(Command::Destroy(id)),
-        "delete" => Line::Edit(Command::Delete(id)),
+        "promote" => Line::Edit(KeysetEdit::Promote(id)),
+        "enable" => Line::Edit(KeysetEdit::Enable(id)),
+        "disable" => Line::Edit(KeysetEdit::Disable(id)),
+        "destroy" => Line::Edit(KeysetEdit::Destroy(id)),
+        "delete" => Line::Edit(KeysetEdit::Delete(id)),
         _ => Line::Bad,
     }
 }

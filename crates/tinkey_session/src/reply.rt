@@ -12,8 +12,8 @@ use itoa::Buffer;
 use key_msgs::Rule;
 use std::alloc::Global;
 use tink_base::{Bytes, NoMemory};
-use tinkey_cmds::CmdFault;
-use wrapped_prims::HandleFault;
+use tinkey_cmds::EditRefusal;
+use wrapped_prims::HandleError;
 
 /// Why a line is refused, and a command, too. Places of records count from 0.
 #[derive(Clone, Copy, Debug, PartialEq, Eq)]
@@ -31,7 +31,7 @@ pub enum Refusal {
     /// The first number of bytes was asked for, and there are at most the second.
     OutputTooLong(usize, usize),
     /// The edit is refused.
-    Command(CmdFault),
+    Command(EditRefusal),
     /// No key of the keyset made the tag.
     VerifyFailed,
 }
@@ -71,14 +71,14 @@ pub enum Reply {
 }
 
 /// Why a keyset can't serve, from the fault of its handle; `None` if memory couldn't be allocated.
-pub fn refusal_in(fault: HandleFault) -> Option<Refusal>
+pub fn refusal_in(fault: HandleError) -> Option<Refusal>
     ensures { result ≡ refusal_in fault }
 {
     match fault {
-        HandleFault::NoManager(i) => Some(Refusal::NoManager(i)),
-        HandleFault::BadKey(i, rule) => Some(Refusal::BadKey(i, rule)),
-        HandleFault::NotRaw(i) => Some(Refusal::NotRaw(i)),
-        HandleFault::NoMemory => None,
+        HandleError::NoManager(i) => Some(Refusal::NoManager(i)),
+        HandleError::BadKey(i, rule) => Some(Refusal::BadKey(i, rule)),
+        HandleError::NotRaw(i) => Some(Refusal::NotRaw(i)),
+        HandleError::NoMemory => None,
     }
 }
 
@@ -209,20 +209,20 @@ fn length_text(asked: usize, greatest: usize) -> ShortText
 
 /// The text of a refused edit.
 #[tactic(auto, unfolding(crate::specs::Texts::edit_text))]
-fn edit_text(fault: CmdFault) -> ShortText
+fn edit_text(fault: EditRefusal) -> ShortText
     ensures text { result ≡ edit_text fault }
     ensures short { length result ≤ 110 }
 {
     match fault {
-        CmdFault::KeyNotFound => plain_text("key not found"),
-        CmdFault::KeyIsPrimary => plain_text("key is primary"),
-        CmdFault::KeyNotEnabled => plain_text("key is not enabled"),
-        CmdFault::KeyDestroyed => plain_text("key is destroyed"),
-        CmdFault::KeyRefused(rule) => refused_text(rule),
-        CmdFault::MixedPrimitive => plain_text("key of another primitive"),
-        CmdFault::IdsExhausted => plain_text("no free key id"),
-        CmdFault::TooManyKeys => plain_text("too many keys"),
-        CmdFault::AmbiguousPrimary => plain_text("primary would be ambiguous"),
+        EditRefusal::KeyNotFound => plain_text("key not found"),
+        EditRefusal::KeyIsPrimary => plain_text("key is primary"),
+        EditRefusal::KeyNotEnabled => plain_text("key is not enabled"),
+        EditRefusal::KeyDestroyed => plain_text("key is destroyed"),
+        EditRefusal::KeyRefused(rule) => refused_text(rule),
+        EditRefusal::MixedPrimitive => plain_text("key of another primitive"),
+        EditRefusal::IdsExhausted => plain_text("no free key id"),
+        EditRefusal::TooManyKeys => plain_text("too many keys"),
+        EditRefusal::AmbiguousPrimary => plain_text("primary would be ambiguous"),
     }
 }
 

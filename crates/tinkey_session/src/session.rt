@@ -22,8 +22,8 @@ use keyset_model::Keyset;
 use managers::{KeyTable, Managers};
 use std::alloc::Global;
 use tink_base::{ENABLED, Entropy};
-use tinkey_cmds::{CmdError, Command, apply};
-use wrapped_prims::{Handle, HandleFault};
+use tinkey_cmds::{EditError, KeysetEdit, apply};
+use wrapped_prims::{Handle, HandleError};
 
 /// Why a line has no answer.
 #[derive(Clone, Copy, Debug, PartialEq, Eq)]
@@ -154,7 +154,7 @@ impl<'m> Session<'m> {
 
     /// Keeps a handle for this primitive, which isn't Stream: the kept one if it is for it,
     /// otherwise a new one.
-    fn fit(&mut self, alloc: Global, primitive: Primitive) -> Result<(), HandleFault>
+    fn fit(&mut self, alloc: Global, primitive: Primitive) -> Result<(), HandleError>
         requires no_stream { primitive ≢ Stream }
         requires kept { IfSome self.old.kept (λ h. IsKept
             (⟦<Managers as KeyTable>⟧.table self.old.managers.now)
@@ -194,7 +194,7 @@ impl<'m> Session<'m> {
     fn edit<E: Entropy>(
         &mut self,
         alloc: Global,
-        command: &Command<Template>,
+        command: &KeysetEdit<Template>,
         entropy: &mut E,
     ) -> Result<Reply, LineFault>
         requires kept { IfSome self.old.kept (λ h. IsKept
@@ -217,12 +217,12 @@ impl<'m> Session<'m> {
                 self.follow(alloc, change);
                 Ok(edited_reply(command, &self.keyset))
             }
-            Err(CmdError::Refused(fault)) => {
+            Err(EditError::Refused(fault)) => {
                 let why = Refusal::Command(fault);
                 Ok(Reply::Refuses(LineRefusal::Refused(why)))
             }
-            Err(CmdError::EntropyFault) => Err(LineFault::EntropyFault),
-            Err(CmdError::NoMemory) => Err(LineFault::NoMemory),
+            Err(EditError::EntropyFault) => Err(LineFault::EntropyFault),
+            Err(EditError::NoMemory) => Err(LineFault::NoMemory),
         }
     }
 }
@@ -267,7 +267,7 @@ fn followed<'m>(
     handle: Handle<'m>,
     change: Change,
     keyset: &Keyset,
-) -> Result<Handle<'m>, HandleFault>
+) -> Result<Handle<'m>, HandleError>
     requires changed { (before : Keys) × IsChanged change before.records keyset.now.records
         × IsOver (⟦<Managers as KeyTable>⟧.table handle.managers.now) handle.primitive before
         handle.held }
@@ -290,17 +290,17 @@ fn followed<'m>(
 }
 
 /// What the edit does to the keyset's records, if it is accepted.
-fn change_of(command: &Command<Template>, keyset: &Keyset) -> Change
+fn change_of(command: &KeysetEdit<Template>, keyset: &Keyset) -> Change
     ensures { IsChange keyset.now (seen_edit command.now) result }
 {
     match command {
-        Command::Add(_) | Command::Rotate(_) | Command::Promote(_) => Change::Grows,
-        Command::Enable(id) => enabled_at(keyset, *id),
-        Command::Disable(id) | Command::Destroy(id) => match keyset.find(*id) {
+        KeysetEdit::Add(_) | KeysetEdit::Rotate(_) | KeysetEdit::Promote(_) => Change::Grows,
+        KeysetEdit::Enable(id) => enabled_at(keyset, *id),
+        KeysetEdit::Disable(id) | KeysetEdit::Destroy(id) => match keyset.find(*id) {
             Some(place) => Change::At(place),
             None => Change::Grows,
         },
-        Command::Delete(id) => match keyset.find(*id) {
+        KeysetEdit::Delete(id) => match keyset.find(*id) {
             Some(place) => Change::Loses(place),
             None => Change::Grows,
         },
@@ -337,7 +337,7 @@ pub fn find_template(name: &str) -> Result<Template, Refusal>
 
 /// The edit that the line asks for, or why there is none.
 #[tactic(auto, unfolding(crate::specs::Serving::serve))]
-fn command_of(line: &Line<'_>) -> Result<Command<Template>, LineRefusal>
+fn command_of(line: &Line<'_>) -> Result<KeysetEdit<Template>, LineRefusal>
     requires no_keys { needs (seen_line line.now) ≡ None }
     ensures { Asks (seen_line line.now) result }
 {
@@ -351,26 +351,26 @@ fn command_of(line: &Line<'_>) -> Result<Command<Template>, LineRefusal>
 }
 
 /// The edit with its template found, or why there is none. No memory is taken.
-pub fn find_edit(edit: Command<&str>) -> Result<Command<Template>, Refusal>
+pub fn find_edit(edit: KeysetEdit<&str>) -> Result<KeysetEdit<Template>, Refusal>
     ensures { FindsEdit (seen_by (λ name. name.now) edit.entry) result }
 {
     match edit {
-        Command::Add(name) => Ok(Command::Add(find_template(name)?)),
-        Command::Rotate(name) => Ok(Command::Rotate(find_template(name)?)),
-        Command::Promote(id) => Ok(Command::Promote(id)),
-        Command::Enable(id) => Ok(Command::Enable(id)),
-        Command::Disable(id) => Ok(Command::Disable(id)),
-        Command::Destroy(id) => Ok(Command::Destroy(id)),
-        Command::Delete(id) => Ok(Command::Delete(id)),
+        KeysetEdit::Add(name) => Ok(KeysetEdit::Add(find_template(name)?)),
+        KeysetEdit::Rotate(name) => Ok(KeysetEdit::Rotate(find_template(name)?)),
+        KeysetEdit::Promote(id) => Ok(KeysetEdit::Promote(id)),
+        KeysetEdit::Enable(id) => Ok(KeysetEdit::Enable(id)),
+        KeysetEdit::Disable(id) => Ok(KeysetEdit::Disable(id)),
+        KeysetEdit::Destroy(id) => Ok(KeysetEdit::Destroy(id)),
+        KeysetEdit::Delete(id) => Ok(KeysetEdit::Delete(id)),
     }
 }
 
 /// The reply to an accepted edit that gave this keyset: the id of the key that it made, if any.
-fn edited_reply(command: &Command<Template>, keyset: &Keyset) -> Reply
+fn edited_reply(command: &KeysetEdit<Template>, keyset: &Keyset) -> Reply
     ensures { result ≡ edited_reply (seen_edit command.now) keyset.now }
 {
     match command {
-        Command::Add(_) | Command::Rotate(_) => {
+        KeysetEdit::Add(_) | KeysetEdit::Rotate(_) => {
             Reply::NewId(keyset.record_at(keyset.len() - 1).id)
         }
         _ => Reply::Done,

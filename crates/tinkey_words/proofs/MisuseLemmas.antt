@@ -12,13 +12,13 @@ use Rattle.tinkey_words.specs.declared.words.names.CommandName.{CommandName}
 use Rattle.tinkey_words.specs.declared.words.names.OptionName.{OptionName}
 use Rattle.tinkey_words.specs.declared.words.names.OptionName.TheVariants as options
 use Rattle.tinkey_words.specs.Names.{row_of, option_row, form_for, rival, needs, for_streams}
-use Rattle.tinkey_words.specs.Rows.{option_of, takes, is_aside, is_new_file, is_value, is_flag, is_dash, is_hex_form, is_named_file, is_odd_hex}
+use Rattle.tinkey_words.specs.Rows.{option_of, takes, is_temporary, is_new_file, is_value, is_flag, is_dash, is_hex_form, is_named_file, is_odd_hex}
 use Rattle.tinkey_words.specs.Words.{◌>>=◌, Asked, Options, misuse_at, own_value, misvalued, is_given, is_excluded, is_barred, bar, new_option, put, with_value, alone, option_word, word_after, next_word, ended, options_of, no_options, given_in, lacking, lacking_none, unmet, unmet_none, is_stream, sealed_in, first_given, idle, idle_of, idle_none, complete, with_options, is_help_flag, help, version, topic_of, first_of, by_itself, topic_words, help_words, command_words, asked_of, words_of}
-use Rattle.tinkey_words.specs.Grammar.{IsValue, Spelling, spelled_as, spelled, IsGiven, HasNeeded, IsHelpWord, IsVersionWord, IsNameOf, IsOptionOf, Helps, the_list, a_topic, its_help, the_version, IsWordOf, IsTold, aside_told, bad_told, IsFault, no_option, twice, beside, own_value_bad, next_value_bad, value_missing, lacks, without, no_stream, SaysStream, IsMisused, no_word, no_command, no_topic, too_many, behind_options, MisusesAreTrue, dash_told, odd_told}
+use Rattle.tinkey_words.specs.Grammar.{IsValue, Spelling, spelled_as, spelled, IsGiven, HasNeeded, IsHelpWord, IsVersionWord, IsNameOf, IsOptionOf, Helps, the_list, a_topic, its_help, the_version, IsWordOf, IsTold, temporary_told, bad_told, IsFault, no_option, twice, beside, own_value_bad, next_value_bad, value_missing, lacks, without, no_stream, SaysStream, IsMisused, no_word, no_command, no_topic, too_many, behind_options, MisusesAreTrue, dash_told, odd_told}
 use Rattle.tinkey_words.proofs.FitLemmas.{is_one, one_is, given_there, once_of, apart_of, taken_of, formed_of, there_of, all_of, met_of, values_run, no_stream_said}
 use Rattle.tinkey_words.proofs.NameLemmas.{flag_form}
 use Rattle.tinkey_words.proofs.HelpLemmas.{first_found, first_is, flag_is, topic_found, topic_is}
-use Rattle.tinkey_words.proofs.RowLemmas.{option_found, option_named, own_plain, own_joined, value_taken, two_pass, aside_is, is_aside', dash_is, is_dash', odd_is, is_odd', flag_formed}
+use Rattle.tinkey_words.proofs.RowLemmas.{option_found, option_named, own_plain, own_joined, value_taken, two_pass, temporary_is, is_temporary', dash_is, is_dash', odd_is, is_odd', flag_formed}
 use Rattle.tinkey_words.proofs.SpellingLemmas.{Runs, all_put, run_read, own_cut, with_formed, Taken, option_is}
 
 -- Where the options stop.
@@ -250,16 +250,16 @@ not_both true true none one other = let clash : true ≡ false = none in absurd 
 not_both true false none one other = let clash : false ≡ true = other in cc
 not_both false b none one other = let clash : false ≡ true = one in absurd (cc)
 
-told_by : (command : CommandName) (name : OptionName) (value : List ℕ) (aside dashed odd : Bool) → (is_new_file (form_for name command) && is_aside value) ≡ aside → (is_named_file (form_for name command) && is_dash value) ≡ dashed → (is_hex_form (form_for name command) && is_odd_hex value) ≡ odd → IsTold command name value (if aside then misfits.Aside command name else (if dashed then misfits.Dash command name else (if odd then misfits.OddHex command name else misfits.BadValue command name)))
+told_by : (command : CommandName) (name : OptionName) (value : List ℕ) (temporary dashed odd : Bool) → (is_new_file (form_for name command) && is_temporary value) ≡ temporary → (is_named_file (form_for name command) && is_dash value) ≡ dashed → (is_hex_form (form_for name command) && is_odd_hex value) ≡ odd → IsTold command name value (if temporary then misfits.Temporary command name else (if dashed then misfits.Dash command name else (if odd then misfits.OddHex command name else misfits.BadValue command name)))
 told_by command name value true dashed odd is dash_is_there odd_is_there =
-    let tests = two_pass (is_new_file (form_for name command)) (is_aside value) is in aside_told tests.0 (aside_is value tests.1) refl
+    let tests = two_pass (is_new_file (form_for name command)) (is_temporary value) is in temporary_told tests.0 (temporary_is value tests.1) refl
 told_by command name value false true odd none is odd_is_there =
     let tests = two_pass (is_named_file (form_for name command)) (is_dash value) is in dash_told tests.0 (dash_is value tests.1) refl
 told_by command name value false false true none named is =
     let tests = two_pass (is_hex_form (form_for name command)) (is_odd_hex value) is in odd_told tests.0 (odd_is value tests.1) refl
 told_by command name value false false false none named even =
     bad_told
-    (λ new there. not_both (is_new_file (form_for name command)) (is_aside value) none new (is_aside' value there))
+    (λ new there. not_both (is_new_file (form_for name command)) (is_temporary value) none new (is_temporary' value there))
     (λ file there. not_both (is_named_file (form_for name command)) (is_dash value) named file (is_dash' value there))
     (λ hex there. not_both (is_hex_form (form_for name command)) (is_odd_hex value) even hex (is_odd' value there))
     refl

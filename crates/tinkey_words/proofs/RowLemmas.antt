@@ -17,17 +17,17 @@ use Rattle.std.proofs.lemmas.Bool.Decides.{Decides-eqb}
 use Rattle.tinkey_words.specs.declared.words.names.CommandName.{CommandName}
 use Rattle.tinkey_words.specs.declared.words.rows.Format.TheVariants as formats
 use Rattle.tinkey_words.specs.declared.words.rows.SealedForm.TheVariants as sealed
-use Rattle.tinkey_words.specs.declared.words.rows.Form.{Form}
-use Rattle.tinkey_words.specs.declared.words.rows.Form.TheVariants as forms
+use Rattle.tinkey_words.specs.declared.words.rows.ValueForm.{ValueForm}
+use Rattle.tinkey_words.specs.declared.words.rows.ValueForm.TheVariants as forms
 use Rattle.tinkey_words.specs.declared.words.names.OptionName.{OptionName}
 use Rattle.tinkey_words.specs.declared.words.names.OptionName.TheVariants as options
 use Rattle.hex.specs.Hex.{is_hex_digit}
 use Rattle.tinkey_words.specs.Names.{row_of, all_commands, option_row, all_options, primitive_of}
-use Rattle.tinkey_words.specs.Rows.{command_of, option_of, same, datum_limit, is_line_count, most_lines, is_range_length, most_range, offset_in, format_of, sealed_form_of, is_hex, is_value, is_flag, aside, begins_aside, is_aside, is_odd_hex, dash, is_dash, primitive_named}
+use Rattle.tinkey_words.specs.Rows.{command_of, option_of, same, datum_limit, is_line_count, most_lines, is_range_length, most_range, offset_in, format_of, sealed_form_of, is_hex, is_value, is_flag, temporary, begins_temporary, is_temporary, is_odd_hex, dash, is_dash, primitive_named}
 use Rattle.key_msgs.specs.declared.primitive.Primitive.{Primitive}
 use Rattle.tinkey_words.specs.Words.{is_equals, own_value, is_stream, known_sealed, sealed_in}
 use Rattle.tinkey_words.proofs.NameLemmas.{command_found, is_found}
-use Rattle.tinkey_words.specs.Grammar.{AsksForKeys, IsAside, IsHex, IsOddHex, IsLineCount, IsNumber, IsOffset, IsRangeLength, IsValue}
+use Rattle.tinkey_words.specs.Grammar.{AsksForKeys, IsTemporary, IsHex, IsOddHex, IsLineCount, IsNumber, IsOffset, IsRangeLength, IsValue}
 
 pub same_option : {A : Type 0} (o : Option A) → option_map (λ x. x) o ≡ o
 same_option None = refl
@@ -175,18 +175,18 @@ not_empty (b ∷ bs) some = grind (arith, nat_tests)
 some_byte : (value : List ℕ) → nat_lt 0 (length value) ≡ true → value ≢ []
 some_byte value is none = let zero : nat_lt 0 (length value) ≡ false = rw none refl in let clash : true ≡ false = sym is ∙ zero in absurd (cc)
 
--- a name aside, and another one
-pub aside_is : (path : List ℕ) → is_aside path ≡ true → IsAside path
-unfolding is_aside
-aside_is path is = by (path_file_name path) refl is
+-- a temporary name, and another one
+pub temporary_is : (path : List ℕ) → is_temporary path ≡ true → IsTemporary path
+unfolding is_temporary
+temporary_is path is = by (path_file_name path) refl is
   where
-    by : (last : Option (List ℕ)) → path_file_name path ≡ last → begins_aside last ≡ true → IsAside path
+    by : (last : Option (List ℕ)) → path_file_name path ≡ last → begins_temporary last ≡ true → IsTemporary path
     by None named is = absurd (cc)
-    by (Some last) named is = (drop (length aside) last, named ∙ ap (λ (text : List ℕ). Some text) ((starts_is Decides-eqb last aside _ refl).0 is))
+    by (Some last) named is = (drop (length temporary) last, named ∙ ap (λ (text : List ℕ). Some text) ((starts_is Decides-eqb last temporary _ refl).0 is))
 
-pub is_aside' : (path : List ℕ) → IsAside path → is_aside path ≡ true
-unfolding is_aside
-is_aside' path (rest, are) = ap begins_aside are ∙ (starts_is Decides-eqb (aside ++ rest) aside _ refl).1 rest refl
+pub is_temporary' : (path : List ℕ) → IsTemporary path → is_temporary path ≡ true
+unfolding is_temporary
+is_temporary' path (rest, are) = ap begins_temporary are ∙ (starts_is Decides-eqb (temporary ++ rest) temporary _ refl).1 rest refl
 
 -- a dash
 pub dash_is : (text : List ℕ) → is_dash text ≡ true → text ≡ dash
@@ -212,22 +212,22 @@ file_formed value is =
     let tests = two_pass (nat_lt 0 (length value)) (not (is_dash value)) is in
     (some_byte value tests.0, off_is (is_dash value) (is_dash' value) tests.1)
 
-output_taken : (value : List ℕ) → (value ≢ []) × (IsAside value → ⊥) → (nat_lt 0 (length value) && not (is_aside value)) ≡ true
-output_taken value formed = rw (not_empty value formed.0, is_off (is_aside value) (aside_is value) formed.1) refl
+output_taken : (value : List ℕ) → (value ≢ []) × (IsTemporary value → ⊥) → (nat_lt 0 (length value) && not (is_temporary value)) ≡ true
+output_taken value formed = rw (not_empty value formed.0, is_off (is_temporary value) (temporary_is value) formed.1) refl
 
-output_formed : (value : List ℕ) → (nat_lt 0 (length value) && not (is_aside value)) ≡ true → (value ≢ []) × (IsAside value → ⊥)
+output_formed : (value : List ℕ) → (nat_lt 0 (length value) && not (is_temporary value)) ≡ true → (value ≢ []) × (IsTemporary value → ⊥)
 output_formed value is =
-    let tests = two_pass (nat_lt 0 (length value)) (not (is_aside value)) is in
-    (some_byte value tests.0, off_is (is_aside value) (is_aside' value) tests.1)
+    let tests = two_pass (nat_lt 0 (length value)) (not (is_temporary value)) is in
+    (some_byte value tests.0, off_is (is_temporary value) (is_temporary' value) tests.1)
 
-new_file_taken : (value : List ℕ) → (value ≢ []) × (value ≢ dash) × (IsAside value → ⊥) → (nat_lt 0 (length value) && not (is_dash value) && not (is_aside value)) ≡ true
+new_file_taken : (value : List ℕ) → (value ≢ []) × (value ≢ dash) × (IsTemporary value → ⊥) → (nat_lt 0 (length value) && not (is_dash value) && not (is_temporary value)) ≡ true
 new_file_taken value formed =
-    rw (not_empty value formed.0, is_off (is_dash value) (dash_is value) formed.1, is_off (is_aside value) (aside_is value) formed.2) refl
+    rw (not_empty value formed.0, is_off (is_dash value) (dash_is value) formed.1, is_off (is_temporary value) (temporary_is value) formed.2) refl
 
-new_file_formed : (value : List ℕ) → (nat_lt 0 (length value) && not (is_dash value) && not (is_aside value)) ≡ true → (value ≢ []) × (value ≢ dash) × (IsAside value → ⊥)
+new_file_formed : (value : List ℕ) → (nat_lt 0 (length value) && not (is_dash value) && not (is_temporary value)) ≡ true → (value ≢ []) × (value ≢ dash) × (IsTemporary value → ⊥)
 new_file_formed value is =
-    let tests = three_pass (nat_lt 0 (length value)) (not (is_dash value)) (not (is_aside value)) is in
-    (some_byte value tests.0, off_is (is_dash value) (is_dash' value) tests.1, off_is (is_aside value) (is_aside' value) tests.2)
+    let tests = three_pass (nat_lt 0 (length value)) (not (is_dash value)) (not (is_temporary value)) is in
+    (some_byte value tests.0, off_is (is_dash value) (is_dash' value) tests.1, off_is (is_temporary value) (is_temporary' value) tests.2)
 
 -- one of two names
 one_of_both : {X : Type 0} (x y : X) (a b : Bool) → (a ≡ true) ⊎ (b ≡ true) → is_some (if a then Some x else (if b then Some y else None)) ≡ true
@@ -362,7 +362,7 @@ datum_formed : (value : List ℕ) → nat_le (length value) datum_limit ≡ true
 datum_formed value is = grind (arith, nat_tests)
 
 -- that no word holds a flag's value, and every other value of its form
-pub value_taken : (form : Form) (value : List ℕ) → is_flag form ≡ false → IsValue form value → is_value form value ≡ true
+pub value_taken : (form : ValueForm) (value : List ℕ) → is_flag form ≡ false → IsValue form value → is_value form value ≡ true
 unfolding is_value
 value_taken forms.Text value other formed = refl
 value_taken forms.FileName value other formed = file_taken value formed
@@ -380,7 +380,7 @@ value_taken forms.Datum value other formed = datum_taken value formed
 value_taken forms.Hex value other formed = hex_taken value formed
 value_taken forms.Flag value other formed = absurd (cc)
 
-pub value_formed : (form : Form) (value : List ℕ) → is_value form value ≡ true → IsValue form value
+pub value_formed : (form : ValueForm) (value : List ℕ) → is_value form value ≡ true → IsValue form value
 unfolding is_value
 value_formed forms.Text value is = tt
 value_formed forms.FileName value is = file_formed value is
@@ -398,7 +398,7 @@ value_formed forms.Datum value is = datum_formed value is
 value_formed forms.Hex value is = hex_formed value is
 value_formed forms.Flag value is = absurd (cc)
 
-pub value_other : (form : Form) (value : List ℕ) → is_value form value ≡ true → is_flag form ≡ false
+pub value_other : (form : ValueForm) (value : List ℕ) → is_value form value ≡ true → is_flag form ≡ false
 unfolding is_value
 value_other forms.Text value is = refl
 value_other forms.FileName value is = refl
@@ -417,7 +417,7 @@ value_other forms.Hex value is = refl
 value_other forms.Flag value is = absurd (cc)
 
 -- the value of a flag is empty
-pub flag_is : (form : Form) → is_flag form ≡ true → form ≡ forms.Flag
+pub flag_is : (form : ValueForm) → is_flag form ≡ true → form ≡ forms.Flag
 flag_is forms.Text is = absurd (cc)
 flag_is forms.FileName is = absurd (cc)
 flag_is forms.Input is = absurd (cc)
@@ -434,8 +434,8 @@ flag_is forms.Datum is = absurd (cc)
 flag_is forms.Hex is = absurd (cc)
 flag_is forms.Flag is = refl
 
-pub flag_empty : (form : Form) (value : List ℕ) → is_flag form ≡ true → IsValue form value → value ≡ []
-flag_empty form value is formed = subst (λ (f : Form). IsValue f value) (flag_is form is) formed
+pub flag_empty : (form : ValueForm) (value : List ℕ) → is_flag form ≡ true → IsValue form value → value ≡ []
+flag_empty form value is formed = subst (λ (f : ValueForm). IsValue f value) (flag_is form is) formed
 
-pub flag_formed : (form : Form) → is_flag form ≡ true → IsValue form []
-flag_formed form is = subst (λ (f : Form). IsValue f []) (sym (flag_is form is)) refl
+pub flag_formed : (form : ValueForm) → is_flag form ≡ true → IsValue form []
+flag_formed form is = subst (λ (f : ValueForm). IsValue f []) (sym (flag_is form is)) refl

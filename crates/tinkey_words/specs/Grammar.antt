@@ -21,13 +21,13 @@ use Rattle.tinkey_words.specs.declared.words.misuse.Misfit.{Misfit}
 use Rattle.tinkey_words.specs.declared.words.misuse.Misfit.TheVariants as misfits
 use Rattle.tinkey_words.specs.declared.words.misuse.Misuse.{Misuse}
 use Rattle.tinkey_words.specs.declared.words.names.CommandName.{CommandName}
-use Rattle.tinkey_words.specs.declared.words.rows.Form.{Form}
-use Rattle.tinkey_words.specs.declared.words.rows.Form.TheVariants as forms
+use Rattle.tinkey_words.specs.declared.words.rows.ValueForm.{ValueForm}
+use Rattle.tinkey_words.specs.declared.words.rows.ValueForm.TheVariants as forms
 use Rattle.tinkey_words.specs.declared.words.names.OptionName.{OptionName}
 use Rattle.tinkey_words.specs.declared.words.names.OptionName.TheVariants as options
 use Rattle.hex.specs.Hex.{is_hex_digit}
 use Rattle.tinkey_words.specs.Names.{row_of, option_row, form_for, rival, needs, for_streams, primitive_of}
-use Rattle.tinkey_words.specs.Rows.{same, aside, datum_limit, most_lines, most_range, is_flag, is_new_file, dash, is_hex_form, is_named_file}
+use Rattle.tinkey_words.specs.Rows.{same, temporary, datum_limit, most_lines, most_range, is_flag, is_new_file, dash, is_hex_form, is_named_file}
 use Rattle.tinkey_words.specs.Words.{Asked, Values, asked_by, convert_keyset, help, open_range, open_stream, primitive_for, reseal_stream, seal_stream, use_envelope, use_keyset, version, misuse_at, words_of}
 
 -- where the word of a place is at fault, it is so, and for the same reason, whatever words stand behind it
@@ -80,17 +80,17 @@ pub record AsksForKeys (text : List ℕ) : Type 0 where
   pub word : text ≡ (row_of command).word
   pub asks : primitive_of command ≡ Some primitive
 
--- the path is a name aside: its last part begins as those do
-abbrev pub IsAside : List ℕ → Type 0
-IsAside path = (rest : List ℕ) × (path_file_name path ≡ Some (aside ++ rest))
+-- the path is a temporary name: its last part begins as those do
+abbrev pub IsTemporary : List ℕ → Type 0
+IsTemporary path = (rest : List ℕ) × (path_file_name path ≡ Some (temporary ++ rest))
 
 -- the value is of the form; that of a flag, which no word holds, is empty
-abbrev pub IsValue : Form → List ℕ → Type 0
+abbrev pub IsValue : ValueForm → List ℕ → Type 0
 IsValue forms.Text value = Unit {0}
 IsValue forms.FileName value = (value ≢ []) × (value ≢ dash)
 IsValue forms.Input value = value ≢ []
-IsValue forms.NewFile value = (value ≢ []) × (value ≢ dash) × (IsAside value → ⊥)
-IsValue forms.Output value = (value ≢ []) × (IsAside value → ⊥)
+IsValue forms.NewFile value = (value ≢ []) × (value ≢ dash) × (IsTemporary value → ⊥)
+IsValue forms.Output value = (value ≢ []) × (IsTemporary value → ⊥)
 IsValue forms.Number value = IsNumber value
 IsValue forms.LineCount value = IsLineCount value
 IsValue forms.RangeLength value = IsRangeLength value
@@ -281,16 +281,16 @@ IsWordOf name word =
 abbrev pub IsOptionOf : CommandName → OptionName → Type 0
 IsOptionOf command name = IsOneOf name ((row_of command).required ++ (row_of command).optional)
 
--- why a value that isn't of the form is told: it is a name aside for a new file, a dash where that stands for no file,
+-- why a value that isn't of the form is told: it is a temporary name for a new file, a dash where that stands for no file,
 -- or an odd number of digits; or it is none of these
 pub data IsTold (command : CommandName) (name : OptionName) (value : List ℕ) (why : Misfit) : Type 0 where
-  aside_told : is_new_file (form_for name command) ≡ true → IsAside value →
-      why ≡ misfits.Aside command name → IsTold command name value why
+  temporary_told : is_new_file (form_for name command) ≡ true → IsTemporary value →
+      why ≡ misfits.Temporary command name → IsTold command name value why
   dash_told : is_named_file (form_for name command) ≡ true → value ≡ dash →
       why ≡ misfits.Dash command name → IsTold command name value why
   odd_told : is_hex_form (form_for name command) ≡ true → IsOddHex value →
       why ≡ misfits.OddHex command name → IsTold command name value why
-  bad_told : (is_new_file (form_for name command) ≡ true → IsAside value → ⊥) →
+  bad_told : (is_new_file (form_for name command) ≡ true → IsTemporary value → ⊥) →
       (is_named_file (form_for name command) ≡ true → value ≡ dash → ⊥) →
       (is_hex_form (form_for name command) ≡ true → IsOddHex value → ⊥) →
       why ≡ misfits.BadValue command name → IsTold command name value why

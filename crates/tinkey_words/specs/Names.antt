@@ -8,8 +8,8 @@ use Rattle.tinkey_words.specs.declared.words.names.CommandName.{CommandName}
 use Rattle.tinkey_words.specs.declared.words.names.CommandName.TheVariants as commands
 use Rattle.tinkey_words.specs.declared.words.names.OptionName.{OptionName}
 use Rattle.tinkey_words.specs.declared.words.names.OptionName.TheVariants as options
-use Rattle.tinkey_words.specs.declared.words.rows.Form.{Form}
-use Rattle.tinkey_words.specs.declared.words.rows.Form.TheVariants as forms
+use Rattle.tinkey_words.specs.declared.words.rows.ValueForm.{ValueForm}
+use Rattle.tinkey_words.specs.declared.words.rows.ValueForm.TheVariants as forms
 
 -- The commands.
 
@@ -181,10 +181,10 @@ all_commands =
 pub record OptionRow : Type 0 where
   pub place : ℕ
   pub word : List ℕ
-  pub form : Form
+  pub form : ValueForm
 
 -- a row of these three
-abbrev pub option : ℕ → List ℕ → Form → OptionRow
+abbrev pub option : ℕ → List ℕ → ValueForm → OptionRow
 option place word form = record { place = place; word = word; form = form }
 
 -- the row of each option
@@ -235,17 +235,17 @@ needs =
     (options.MasterFormat, options.Master) ∷ (options.NewMasterFormat, options.NewMaster) ∷ []
 
 -- the form of the value of --out
-abbrev pub out_form : CommandName → Form
+abbrev pub out_form : CommandName → ValueForm
 out_form commands.Session = forms.NewFile
 out_form _ = forms.Output
 
 -- the form of the value of --length
-abbrev pub length_form : CommandName → Form
+abbrev pub length_form : CommandName → ValueForm
 length_form commands.Srange = forms.RangeLength
 length_form _ = forms.Number
 
 -- the form of the option's value, for the command
-abbrev pub form_for : OptionName → CommandName → Form
+abbrev pub form_for : OptionName → CommandName → ValueForm
 form_for options.Out command = out_form command
 form_for options.Length command = length_form command
 form_for name command = (option_row name).form

@@ -11,8 +11,8 @@ use Rattle.tinkey_words.specs.declared.words.rows.Format.{Format}
 use Rattle.tinkey_words.specs.declared.words.rows.Format.TheVariants as formats
 use Rattle.tinkey_words.specs.declared.words.rows.SealedForm.{SealedForm}
 use Rattle.tinkey_words.specs.declared.words.rows.SealedForm.TheVariants as sealed
-use Rattle.tinkey_words.specs.declared.words.rows.Form.{Form}
-use Rattle.tinkey_words.specs.declared.words.rows.Form.TheVariants as forms
+use Rattle.tinkey_words.specs.declared.words.rows.ValueForm.{ValueForm}
+use Rattle.tinkey_words.specs.declared.words.rows.ValueForm.TheVariants as forms
 use Rattle.tinkey_words.specs.declared.words.names.CommandName.{CommandName}
 use Rattle.tinkey_words.specs.declared.words.names.OptionName.{OptionName}
 use Rattle.key_msgs.specs.declared.primitive.Primitive.{Primitive}
@@ -47,24 +47,24 @@ takes command name = is_one_of name ((row_of command).required ++ (row_of comman
 -- The values.
 
 -- a flag is a word without a value
-abbrev pub is_flag : Form → Bool
+abbrev pub is_flag : ValueForm → Bool
 is_flag forms.Flag = true
 is_flag _ = false
 
 -- the value names a file that is made
-abbrev pub is_new_file : Form → Bool
+abbrev pub is_new_file : ValueForm → Bool
 is_new_file forms.NewFile = true
 is_new_file forms.Output = true
 is_new_file _ = false
 
 -- the value names a file, and a dash would stand for no file
-abbrev pub is_named_file : Form → Bool
+abbrev pub is_named_file : ValueForm → Bool
 is_named_file forms.FileName = true
 is_named_file forms.NewFile = true
 is_named_file _ = false
 
 -- the value is hexadecimal
-abbrev pub is_hex_form : Form → Bool
+abbrev pub is_hex_form : ValueForm → Bool
 is_hex_form forms.Hex = true
 is_hex_form _ = false
 
@@ -76,18 +76,18 @@ dash = codes "-"
 abbrev pub is_dash : List ℕ → Bool
 is_dash text = bytes_eq text dash
 
--- what a name aside begins with, under which a new file is filled
-abbrev pub aside : List ℕ
-aside = codes ".tinkey-new-"
+-- what a temporary name begins with, under which a new file is filled
+abbrev pub temporary : List ℕ
+temporary = codes ".tinkey-new-"
 
 -- the last part of a path, where it has one, begins so
-abbrev pub begins_aside : Option (List ℕ) → Bool
-begins_aside None = false
-begins_aside (Some last) = starts_with ◌==◌ last aside
+abbrev pub begins_temporary : Option (List ℕ) → Bool
+begins_temporary None = false
+begins_temporary (Some last) = starts_with ◌==◌ last temporary
 
--- the path is a name aside
-unfoldable pub is_aside : List ℕ → Bool
-is_aside path = begins_aside (path_file_name path)
+-- the path is a temporary name
+unfoldable pub is_temporary : List ℕ → Bool
+is_temporary path = begins_temporary (path_file_name path)
 
 -- a self-test of more lines isn't made
 abbrev pub most_lines : ℕ
@@ -151,15 +151,15 @@ is_odd_hex text =
     nat_le (length text) (2 * datum_limit) && (length text % 2 == 1) && list_all is_hex_digit text
 
 -- the text is a value of this form: any text; the name of a file, which isn't empty, and isn't a dash but where the
--- file is read or made in place of standard input or output; that of a new one, which isn't a name aside either; a
+-- file is read or made in place of standard input or output; that of a new one, which isn't a temporary name either; a
 -- number, a count of lines, the length of a range, an offset in a file, the name of a keyset's form or of what key-of
 -- is given, the word of a command that asks for keys, or a datum as it stands or in hexadecimal; a flag has none
-unfoldable pub is_value : Form → List ℕ → Bool
+unfoldable pub is_value : ValueForm → List ℕ → Bool
 is_value forms.Text text = true
 is_value forms.FileName text = nat_lt 0 (length text) && not (is_dash text)
 is_value forms.Input text = nat_lt 0 (length text)
-is_value forms.NewFile text = nat_lt 0 (length text) && not (is_dash text) && not (is_aside text)
-is_value forms.Output text = nat_lt 0 (length text) && not (is_aside text)
+is_value forms.NewFile text = nat_lt 0 (length text) && not (is_dash text) && not (is_temporary text)
+is_value forms.Output text = nat_lt 0 (length text) && not (is_temporary text)
 is_value forms.Number text = is_some (number_in text)
 is_value forms.LineCount text = is_line_count (number_in text)
 is_value forms.RangeLength text = is_range_length (number_in text)

@@ -4,7 +4,7 @@
 --
 -- The answer is a command, or the first word at fault, by its place and by why it is so: an unknown
 -- command or option, one that the command doesn't have, a repeat, the second of two that exclude each
--- other, or one that holds a value that isn't of its form, as a name aside for a new file, a dash where it stands for
+-- other, or one that holds a value that isn't of its form, as a temporary name for a new file, a dash where it stands for
 -- no file, or an odd number of hexadecimal digits; of help, a topic that isn't known, or a word too many. Where a value,
 -- a required option, or one that another needs is missing at the end, or an option is there that means something for
 -- a stream alone and no word says that there is one, the place is the
@@ -20,11 +20,11 @@ use Rattle.key_msgs.specs.declared.primitive.Primitive.{Primitive}
 use Rattle.key_msgs.specs.declared.primitive.Primitive.TheVariants.{Aead, Daead, Mac, Prf}
 use Rattle.tinkey_cmds.specs.Edits.{EditOf, seen_by}
 use Rattle.tinkey_cmds.specs.Edits as edits
-use Rattle.tinkey_cmds.specs.declared.command.Command.{Command}
+use Rattle.tinkey_cmds.specs.declared.command.KeysetEdit.{KeysetEdit}
 use Rattle.tinkey_words.specs.declared.words.request.Request.{Request}
 use Rattle.tinkey_words.specs.declared.words.request.Request.TheVariants as asks
 use Rattle.tinkey_words.specs.declared.words.options.Options.{Options as CodeOptions}
-use Rattle.tinkey_words.specs.declared.words.request.Place.{Place as CodePlace}
+use Rattle.tinkey_words.specs.declared.words.request.KeysetFile.{KeysetFile as CodePlace}
 use Rattle.tinkey_words.specs.declared.words.range.Range.{Range as CodeRange}
 use Rattle.tinkey_words.specs.declared.words.lock.Master.{Master as CodeMaster}
 use Rattle.tinkey_words.specs.declared.words.lock.NewLock.{NewLock as CodeNewLock}
@@ -43,7 +43,7 @@ use Rattle.tinkey_words.specs.declared.words.help.Topic.TheVariants as topics
 use Rattle.tinkey_words.specs.declared.words.misuse.Misfit.{Misfit}
 use Rattle.tinkey_words.specs.declared.words.misuse.Misfit.TheVariants as misfits
 use Rattle.tinkey_words.specs.declared.words.misuse.Misuse.{Misuse}
-use Rattle.tinkey_words.specs.declared.words.rows.Form.{Form}
+use Rattle.tinkey_words.specs.declared.words.rows.ValueForm.{ValueForm}
 use Rattle.tinkey_words.specs.declared.words.rows.Format.{Format}
 use Rattle.tinkey_words.specs.declared.words.rows.Format.TheVariants as formats
 use Rattle.tinkey_words.specs.declared.words.rows.SealedForm.{SealedForm}
@@ -54,7 +54,7 @@ use Rattle.tinkey_words.specs.declared.words.names.OptionName.{OptionName}
 use Rattle.tinkey_words.specs.declared.words.names.OptionName.TheVariants as options
 use Rattle.tink_base.specs.Decimal.{number_in}
 use Rattle.tinkey_words.specs.Names.{row_of, option_row, form_for, rival, needs, for_streams}
-use Rattle.tinkey_words.specs.Rows.{command_of, option_of, same, takes, datum_limit, most_range, format_of, sealed_form_of, is_aside, is_new_file, is_value, offset_in, is_flag, is_dash, is_hex_form, is_named_file, is_odd_hex, primitive_named}
+use Rattle.tinkey_words.specs.Rows.{command_of, option_of, same, takes, datum_limit, most_range, format_of, sealed_form_of, is_temporary, is_new_file, is_value, offset_in, is_flag, is_dash, is_hex_form, is_named_file, is_odd_hex, primitive_named}
 
 -- What is asked.
 
@@ -93,7 +93,7 @@ primitive_for (to_derive size) = Prf
 
 -- where a keyset is taken from or put, and in which form: the file of this name, or none for standard
 -- input and output
-pub record Place : Type 0 where
+pub record KeysetFile : Type 0 where
   pub file : Option (List ℕ)
   pub form : Format
 
@@ -137,16 +137,16 @@ pub record AskedRange : Type 0 where
 -- that is taken, and of the one that is put.
 pub data Asked : Type 0 where
   -- a new keyset of one key, by the template of this name
-  create_keyset : (lock : Lock) (template : List ℕ) (out : Place) → Asked
+  create_keyset : (lock : Lock) (template : List ℕ) (out : KeysetFile) → Asked
   -- a keyset, changed
-  edit_keyset : (lock : Lock) (edit : AskedEdit) (in' out : Place) → Asked
+  edit_keyset : (lock : Lock) (edit : AskedEdit) (in' out : KeysetFile) → Asked
   -- the listing of a keyset
-  list_keyset : (lock : Lock) (in' : Place) → Asked
+  list_keyset : (lock : Lock) (in' : KeysetFile) → Asked
   -- the keys under which the input stands, of the keyset in the file of this name; a stream has these
   -- associated data
   key_of : (lock : Lock) (keyset : List ℕ) (form : Format) (kind : SealedForm) (ad : List ℕ) → Asked
   -- a keyset, in another place, and where it is asked for under another master or in clear
-  convert_keyset : (lock : Lock) (new : NewLock) (in' out : Place) → Asked
+  convert_keyset : (lock : Lock) (new : NewLock) (in' out : KeysetFile) → Asked
   -- the names of the templates, where a primitive is given of those whose keys have it
   list_key_templates : (primitive : Option Primitive) → Asked
   -- work on the input, by the keys of the keyset in the file of this name, and where it is put
@@ -169,7 +169,7 @@ pub data Asked : Type 0 where
   open_range : (lock : Lock) (keyset : List ℕ) (form : Format) (ad : List ℕ) (range : AskedRange)
       (out : Option (List ℕ)) → Asked
   -- the lines of the input, answered over such a keyset, and where the last keyset is put
-  session : (lock : Lock) (keyset : List ℕ) (form : Format) (out : Place) → Asked
+  session : (lock : Lock) (keyset : List ℕ) (form : Format) (out : KeysetFile) → Asked
   -- so many lines of a session, made from a number, and what becomes of them
   self_test : (seed lines : ℕ) → Asked
   -- what a topic has to say, and the version
@@ -177,11 +177,11 @@ pub data Asked : Type 0 where
   version : Asked
 
 -- A keyset is sealed under the master in the file of this name; and one that was so is opened.
-abbrev pub wrap_keyset : (master : List ℕ) (form : Format) (in' out : Place) → Asked
+abbrev pub wrap_keyset : (master : List ℕ) (form : Format) (in' out : KeysetFile) → Asked
 wrap_keyset master form in' out =
     convert_keyset None (under (record { file = master; form = form })) in' out
 
-abbrev pub unwrap_keyset : (master : List ℕ) (form : Format) (in' out : Place) → Asked
+abbrev pub unwrap_keyset : (master : List ℕ) (form : Format) (in' out : KeysetFile) → Asked
 unwrap_keyset master form in' out =
     convert_keyset (Some (record { file = master; form = form })) in_clear in' out
 
@@ -269,11 +269,11 @@ abbrev pub served : Values → Option Primitive
 served values = option_and_then primitive_named (values options.For)
 
 -- where a keyset is taken from
-abbrev pub taken_from : Values → Place
+abbrev pub taken_from : Values → KeysetFile
 taken_from values = record { file = values options.In; form = form_in (values options.InFormat) }
 
 -- where a keyset is put
-abbrev pub put_to : Values → Place
+abbrev pub put_to : Values → KeysetFile
 put_to values = record { file = values options.Out; form = form_in (values options.OutFormat) }
 
 -- the master in the file of this name, where one is given, in the form that this value gives
@@ -463,11 +463,11 @@ put name value given = record {
   waiting = None;
 }
 
--- why a value that isn't of this form is at fault: it is a name aside for a new file, a dash where only a file's own
+-- why a value that isn't of this form is at fault: it is a temporary name for a new file, a dash where only a file's own
 -- name is one, an odd number of hexadecimal digits, or any other
-abbrev pub misvalued : Form → CommandName → OptionName → List ℕ → Misfit
+abbrev pub misvalued : ValueForm → CommandName → OptionName → List ℕ → Misfit
 misvalued form command name value =
-    if is_new_file form && is_aside value then misfits.Aside command name
+    if is_new_file form && is_temporary value then misfits.Temporary command name
     else (if is_named_file form && is_dash value then misfits.Dash command name
     else (if is_hex_form form && is_odd_hex value then misfits.OddHex command name
     else misfits.BadValue command name))
@@ -639,7 +639,7 @@ words_of (name ∷ words) = asked_of (first_of name) words
 -- What the code's commands and options stand for.
 
 -- an edit, with the bytes of its template's name
-abbrev pub seen_edit : Command (Bor (List ℕ)) → AskedEdit
+abbrev pub seen_edit : KeysetEdit (Bor (List ℕ)) → AskedEdit
 seen_edit edit = seen_by (λ name. name.now) edit
 
 -- the name of a file
@@ -647,7 +647,7 @@ abbrev pub seen_name : Option (Bor (List ℕ)) → Option (List ℕ)
 seen_name name = option_map (λ name. name.now) name
 
 -- a place of a keyset
-abbrev pub seen_place : CodePlace → Place
+abbrev pub seen_place : CodePlace → KeysetFile
 seen_place place = record { file = seen_name place.file; form = place.form }
 
 -- a master

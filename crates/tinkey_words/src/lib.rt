@@ -8,6 +8,6 @@ pub mod laws;
 mod words;
 
 pub use words::{
-    CommandName, DATUM_LIMIT, Datum, Envelope, Form, Format, Master, Misfit, Misuse, NewLock,
-    OptionName, Output, Place, Range, Request, SealedForm, Topic, Work, parse,
+    CommandName, DATUM_LIMIT, Datum, Envelope, Format, KeysetFile, Master, Misfit, Misuse, NewLock,
+    OptionName, Output, Range, Request, SealedForm, Topic, ValueForm, Work, parse,
 };

@@ -25,10 +25,10 @@ use names::NEEDS;
 pub use names::{CommandName, OptionName};
 use options::{Options, erase, relocked};
 pub use range::Range;
-pub use request::{Datum, Envelope, Output, Place, Request, Work};
+pub use request::{Datum, Envelope, KeysetFile, Output, Request, Work};
 use rows::is_dash;
-pub use rows::{DATUM_LIMIT, Form, Format, SealedForm};
-use tinkey_cmds::Command as Edit;
+pub use rows::{DATUM_LIMIT, Format, SealedForm, ValueForm};
+use tinkey_cmds::KeysetEdit as Edit;
 
 /// The command that the words ask for, or the first word at fault, as in `Status::Usage`.
 #[tactic(auto, unfolding(crate::specs::Words::words_of))]

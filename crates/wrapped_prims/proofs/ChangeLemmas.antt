@@ -17,7 +17,7 @@ use Rattle.wrapped_prims.specs.Fitness.{fault_of_record, or_later, unfit, unfit_
 use Rattle.wrapped_prims.specs.Following.{ChangesAt, LosesAt}
 use Rattle.wrapped_prims.specs.Held.{IsServed, kept_of}
 use Rattle.wrapped_prims.specs.Making.{HasWordId, IsFaultOf, IsKeeping, IsOver}
-use Rattle.wrapped_prims.specs.declared.handle.HandleFault.{HandleFault}
+use Rattle.wrapped_prims.specs.declared.handle.HandleError.{HandleError}
 use Rattle.wrapped_prims.specs.declared.held.Held.{Held}
 use Rattle.wrapped_prims.specs.declared.held.Kept.{Kept}
 
@@ -138,7 +138,7 @@ over_changed table p place primary before keys r slot old new c over there keepi
     listed faultless first
 
 -- or it can't serve, and is the first that can't
-pub fault_changed : (table : Table) (p : Primitive) (place : ℕ) (before keys : Keys) (r : Record) (old : Held) (fault : HandleFault)
+pub fault_changed : (table : Table) (p : Primitive) (place : ℕ) (before keys : Keys) (r : Record) (old : Held) (fault : HandleError)
     → ChangesAt place before.records keys.records → IsOver table p before old
     → slice_get keys.records place ≡ Some r → IsKeeping table p r place (Err fault) → IsFaultOf (unfit keys p table) fault
 unfolding Fits

@@ -22,8 +22,8 @@ use Rattle.wrapped_prims.specs.Fitness.{NotRaw, Unfit, fault_of_record, first_of
 use Rattle.wrapped_prims.specs.Held.{AreServed, IsServed, IsServedBy, kept_of, kept_with}
 use Rattle.wrapped_prims.specs.Making.{HasWordId, IsCheckedBy, IsFaultOf, IsKeeping, IsOver}
 use Rattle.wrapped_prims.specs.Prefixes.{places_from, places_of}
-use Rattle.wrapped_prims.specs.declared.handle.HandleFault.{HandleFault}
-use Rattle.wrapped_prims.specs.declared.handle.HandleFault.TheVariants as faults
+use Rattle.wrapped_prims.specs.declared.handle.HandleError.{HandleError}
+use Rattle.wrapped_prims.specs.declared.handle.HandleError.TheVariants as faults
 use Rattle.wrapped_prims.specs.declared.held.Held.{Held}
 use Rattle.wrapped_prims.specs.declared.held.Kept.{Kept}
 
@@ -184,7 +184,7 @@ kept_last table p keys n held faultless end kept = by (drop n keys.records) (dro
     by (r ∷ rest) some kept = absurd cc
 
 -- a fault of the first record behind those that can serve
-pub fault_here : (table : Table) (p : Primitive) (keys : Keys) (i : ℕ) (r : Record) (fault : HandleFault)
+pub fault_here : (table : Table) (p : Primitive) (keys : Keys) (i : ℕ) (r : Record) (fault : HandleError)
     → unfit keys p table ≡ unfit_from i table p (drop i keys.records) → slice_get keys.records i ≡ Some r → IsKeeping table p r i (Err fault)
     → IsFaultOf (unfit keys p table) fault
 fault_here table p keys i r (faults.NoManager j) fit at keeping = fit_here table p keys i r (Some (fitness.NoManager)) fit at keeping.1 ∙ ap (λ k. Some (k, fitness.NoManager)) (sym keeping.0)
@@ -192,6 +192,6 @@ fault_here table p keys i r (faults.BadKey j rule) fit at keeping = fit_here tab
 fault_here table p keys i r (faults.NotRaw j) fit at keeping = fit_here table p keys i r (Some (fitness.NotRaw)) fit at keeping.1 ∙ ap (λ k. Some (k, fitness.NotRaw)) (sym keeping.0)
 fault_here table p keys i r faults.NoMemory fit at keeping = tt
 
-pub fault_refused : {A : Type 0} (result : Result A HandleFault) (fault : HandleFault) (told : Option (ℕ × Unfit)) → IsErrAnd result (λ e. e ≡ fault) → IsFaultOf told fault → IfErr result (IsFaultOf told)
+pub fault_refused : {A : Type 0} (result : Result A HandleError) (fault : HandleError) (told : Option (ℕ × Unfit)) → IsErrAnd result (λ e. e ≡ fault) → IsFaultOf told fault → IfErr result (IsFaultOf told)
 fault_refused (Ok done) fault told same is = absurd same
 fault_refused (Err e) fault told same is = subst (IsFaultOf told) (sym same) is

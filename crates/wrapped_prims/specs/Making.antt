@@ -12,13 +12,13 @@ use Rattle.wrapped_prims.specs.Fitness.{Unfit, fault_of_record, unfit}
 use Rattle.wrapped_prims.specs.Fitness as fitness
 use Rattle.wrapped_prims.specs.Held.{AreServed, IsServed, kept_of}
 use Rattle.wrapped_prims.specs.Prefixes.{places_of, prefix_index}
-use Rattle.wrapped_prims.specs.declared.handle.HandleFault.{HandleFault}
-use Rattle.wrapped_prims.specs.declared.handle.HandleFault.TheVariants as faults
+use Rattle.wrapped_prims.specs.declared.handle.HandleError.{HandleError}
+use Rattle.wrapped_prims.specs.declared.handle.HandleError.TheVariants as faults
 use Rattle.wrapped_prims.specs.declared.held.Held.{Held}
 use Rattle.wrapped_prims.specs.declared.held.Kept.{Kept}
 
 -- the record at fault is answered, with its first fault. Of want of memory nothing is said.
-abbrev pub IsFaultOf : Option (ℕ × Unfit) → HandleFault → Type 0
+abbrev pub IsFaultOf : Option (ℕ × Unfit) → HandleError → Type 0
 IsFaultOf found (faults.NoManager i) = found ≡ Some (i, fitness.NoManager)
 IsFaultOf found (faults.BadKey i rule) = found ≡ Some (i, fitness.BadKey rule)
 IsFaultOf found (faults.NotRaw i) = found ≡ Some (i, fitness.NotRaw)
@@ -45,7 +45,7 @@ IsCheckedBy None value outcome = ⊥
 IsCheckedBy (Some entry) value outcome = IsReading (key_under entry.scheme value) outcome
 
 -- what is kept of the record of this place, or its fault
-abbrev pub IsKeeping : Table → Primitive → Record → ℕ → Result (Option Kept) HandleFault → Type 0
+abbrev pub IsKeeping : Table → Primitive → Record → ℕ → Result (Option Kept) HandleError → Type 0
 IsKeeping table primitive r i (Ok slot) =
     (fault_of_record table primitive r ≡ None) × (slot ≡ kept_of table primitive r)
     × IsServed table primitive slot

@@ -8,7 +8,7 @@ ghost use Rattle.wrapped_prims.specs.Making.{IsFaultOf, IsOver};
 
 use crate::handle::{fill, keep};
 use crate::held::Held;
-use crate::{Handle, HandleFault};
+use crate::{Handle, HandleError};
 use keyset_model::Keyset;
 use managers::{KeyTable, Managers};
 use std::alloc::Global;
@@ -20,7 +20,7 @@ impl<'m> Handle<'m> {
     ///
     /// Only the records after them are checked and prepared. The answer is that of `new`, over the
     /// managers and for the primitive of this handle; it is dropped if there is a fault.
-    pub fn grown(self, alloc: Global, keyset: &Keyset) -> Result<Handle<'m>, HandleFault>
+    pub fn grown(self, alloc: Global, keyset: &Keyset) -> Result<Handle<'m>, HandleError>
         requires grows { (before : Keys) × BeginsWith before.records keyset.now.records
             × IsOver (⟦<Managers as KeyTable>⟧.table self.managers.now) self.primitive before
             self.held }
@@ -56,7 +56,7 @@ impl<'m> Handle<'m> {
         alloc: Global,
         keyset: &Keyset,
         place: usize,
-    ) -> Result<Handle<'m>, HandleFault>
+    ) -> Result<Handle<'m>, HandleError>
         requires changes { (before : Keys) × ChangesAt place before.records keyset.now.records
             × IsOver (⟦<Managers as KeyTable>⟧.table self.managers.now) self.primitive before
             self.held }

@@ -26,7 +26,7 @@ use tink_base::{ENABLED, LEGACY, NoMemory, RAW};
 /// counted from 0, of the first ENABLED record with a fault, and the first of its faults in this
 /// order.
 #[derive(Clone, Copy, Debug, PartialEq, Eq)]
-pub enum HandleFault {
+pub enum HandleError {
     /// No manager of the primitive has this record's type URL.
     NoManager(usize),
     /// The manager refuses this record's value, for the first rule that it breaks.
@@ -37,13 +37,13 @@ pub enum HandleFault {
     NoMemory,
 }
 
-impl From<NoMemory> for HandleFault {
-    ghost use Rattle.wrapped_prims.specs.declared.handle.HandleFault.TheVariants as faults;
+impl From<NoMemory> for HandleError {
+    ghost use Rattle.wrapped_prims.specs.declared.handle.HandleError.TheVariants as faults;
 
     ghost from_gives = { λ _ fault. fault ≡ faults.NoMemory };
 
-    fn from(_error: NoMemory) -> HandleFault {
-        HandleFault::NoMemory
+    fn from(_error: NoMemory) -> HandleError {
+        HandleError::NoMemory
     }
 }
 
@@ -96,7 +96,7 @@ pub(crate) fn keep(
     primitive: Primitive,
     i: usize,
     from: &Record,
-) -> Result<Option<Kept>, HandleFault>
+) -> Result<Option<Kept>, HandleError>
     ensures keeping { IsKeeping (⟦<Managers as KeyTable>⟧.table managers.now) primitive from.now i
         result }
     ensures word { HasWordId from.now }
@@ -106,13 +106,13 @@ pub(crate) fn keep(
         return Ok(None);
     }
     let Some(place) = managers.find(primitive, from.url.as_str()) else {
-        return Err(HandleFault::NoManager(i));
+        return Err(HandleError::NoManager(i));
     };
     match check_at(managers, alloc, primitive, place, from.value.as_slice()) {
         Ok(key) => {
             if has_no_place(primitive, from) {
                 drop(key);
-                return Err(HandleFault::NotRaw(i));
+                return Err(HandleError::NotRaw(i));
             }
             Ok(Some(Kept {
                 place,
@@ -121,8 +121,8 @@ pub(crate) fn keep(
                 key,
             }))
         }
-        Err(CheckFault::Bad(rule)) => Err(HandleFault::BadKey(i, rule)),
-        Err(CheckFault::NoMemory) => Err(HandleFault::NoMemory),
+        Err(CheckFault::Bad(rule)) => Err(HandleError::BadKey(i, rule)),
+        Err(CheckFault::NoMemory) => Err(HandleError::NoMemory),
     }
 }
 
@@ -133,7 +133,7 @@ pub(crate) fn fill(
     primitive: Primitive,
     keyset: &Keyset,
     mut held: Held,
-) -> Result<Held, HandleFault>
+) -> Result<Held, HandleError>
     requires faultless { fault_of keyset.now ≡ None }
     requires begun { IsKept (⟦<Managers as KeyTable>⟧.table managers.now) primitive keyset.now
         (drop (length held.slots.items) keyset.now.records) (length held.slots.items) held }
@@ -159,7 +159,7 @@ impl<'m> Handle<'m> {
         keyset: &Keyset,
         managers: &'m Managers,
         primitive: Primitive,
-    ) -> Result<Handle<'m>, HandleFault>
+    ) -> Result<Handle<'m>, HandleError>
         requires no_stream { primitive ≢ Stream }
         ensures fault { IfErr result (IsFaultOf
             (unfit keyset.now primitive (⟦<Managers as KeyTable>⟧.table managers.now))) }

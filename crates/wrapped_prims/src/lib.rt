@@ -14,7 +14,7 @@ mod rooms;
 mod sealing;
 mod trying;
 
-pub use handle::{Handle, HandleFault};
+pub use handle::{Handle, HandleError};
 pub use keys::HeldKeys;
 pub use making::DeriveFault;
 pub use places::Places;

@@ -8,7 +8,7 @@ pub enum Came {
     Free,
     /// A call has said that memory is wanting.
     Starved,
-    /// A file was made under a name aside.
+    /// A file was made under a temporary name.
     Begun,
     /// A call has said that something has it.
     Taken,
@@ -22,7 +22,7 @@ pub enum Came {
     Kept(bool),
 }
 
-/// Where the file is that was made under a name aside.
+/// Where the file is that was made under a temporary name.
 #[derive(Clone, Copy)]
 pub enum Stands {
     /// Nowhere.

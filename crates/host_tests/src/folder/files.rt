@@ -73,21 +73,21 @@ fn is_absent(rt: &HostRuntime, name: &str) -> Result<(), Fail> {
     Ok(())
 }
 
-/// Whether an entry of a folder has a name aside.
-fn is_aside(entry: io::Result<DirEntry>) -> Result<bool, Fail> {
+/// Whether an entry of a folder has a temporary name.
+fn is_temporary(entry: io::Result<DirEntry>) -> Result<bool, Fail> {
     Ok(entry?.file_name().starts_with(".tinkey-new-"))
 }
 
-/// Holds a folder to so many names aside.
-fn has_aside(rt: &HostRuntime, folder: &str, want: usize) -> Result<(), Fail> {
+/// Holds a folder to so many temporary names.
+fn has_temporary(rt: &HostRuntime, folder: &str, want: usize) -> Result<(), Fail> {
     let mut count = 0usize;
     for entry in fs::read_dir(rt, folder)? {
-        if is_aside(entry)? {
+        if is_temporary(entry)? {
             count = count.wrapping_add(1);
         }
     }
     if count != want {
-        return Err(Fail::new(format_args!("{folder}: {count} names aside, and not {want}")));
+        return Err(Fail::new(format_args!("{folder}: {count} temporary names, and not {want}")));
     }
     Ok(())
 }
@@ -112,8 +112,8 @@ enum Step {
     New(&'static str),
     /// Nothing has this name.
     Absent(&'static str),
-    /// A folder has so many names aside.
-    Aside(&'static str, usize),
+    /// A folder has so many temporary names.
+    Temporary(&'static str, usize),
 }
 
 /// Takes a step.
@@ -128,7 +128,7 @@ fn take(rt: &HostRuntime, store: &mut DirStore<'_>, step: &Step) -> Result<(), F
         Step::Private(name) => is_private(rt, name),
         Step::New(name) => is_new(rt, name),
         Step::Absent(name) => is_absent(rt, name),
-        Step::Aside(folder, want) => has_aside(rt, folder, *want),
+        Step::Temporary(folder, want) => has_temporary(rt, folder, *want),
     }
 }
 
@@ -228,9 +228,9 @@ const AFTER: [Step; 8] = [
     Step::New("places/dot"),
     Step::Holds("places/file", "old"),
     Step::Absent("places/nowhere"),
-    Step::Aside("places", 0),
-    Step::Aside("places/sub", 0),
-    Step::Aside(".", 0),
+    Step::Temporary("places", 0),
+    Step::Temporary("places/sub", 0),
+    Step::Temporary(".", 0),
 ];
 
 /// Creates the file of a row.
@@ -261,7 +261,7 @@ fn makes_a_file_where_the_path_is_free(rt: HostRuntime) -> Result<(), Fail> {
     Ok(fs::remove_dir_all(&rt, "places")?)
 }
 
-// A name may have 255 bytes, and no name aside is longer for it.
+// A name may have 255 bytes, and no temporary name is longer for it.
 const LONG: [&str; 4] = [
     "a byte less | 254 | made",
     "the most | 255 | made",
@@ -284,7 +284,7 @@ fn makes_files_of_the_longest_names(rt: HostRuntime) -> Result<(), Fail> {
     for row in &LONG {
         assert_long(&mut store, rt.alloc(), row)?;
     }
-    has_aside(&rt, "long", 0)?;
+    has_temporary(&rt, "long", 0)?;
     Ok(fs::remove_dir_all(&rt, "long")?)
 }
 
@@ -301,7 +301,7 @@ const LEFT: [Step; 12] = [
     Step::Holds("left/.tinkey-new-0", "part"),
     Step::Holds("left/.tinkey-new-0123456789abcdef", "part"),
     Step::Absent("left/nowhere"),
-    Step::Aside("left", 3),
+    Step::Temporary("left", 3),
 ];
 
 #[test]
@@ -335,8 +335,8 @@ fn path_of_k(rt: &HostRuntime, folder: &str) -> Result<String, Fail> {
     Ok(format!(in rt.alloc(); "{here}/k")?)
 }
 
-/// The path of the name aside in a folder that has one.
-fn path_aside(rt: &HostRuntime, folder: &str) -> Result<String, Fail> {
+/// The path of the temporary name in a folder that has one.
+fn temporary_path(rt: &HostRuntime, folder: &str) -> Result<String, Fail> {
     for entry in fs::read_dir(rt, folder)? {
         let entry = entry?;
         let name = entry.file_name();
@@ -345,10 +345,10 @@ fn path_aside(rt: &HostRuntime, folder: &str) -> Result<String, Fail> {
             return Ok(format!(in rt.alloc(); "{folder}/{name}")?);
         }
     }
-    Err("a name aside".into())
+    Err("a temporary name".into())
 }
 
-/// Holds the path of a name aside to 16 digits.
+/// Holds the path of a temporary name to 16 digits.
 fn has_digits(path: &str) -> Result<(), Fail> {
     let (_, digits) = path.rsplit_once('-').ok_or("a dash")?;
     if digits.len() != 16 || !digits.bytes().all(|digit| digit.is_ascii_hexdigit()) {
@@ -360,10 +360,10 @@ fn has_digits(path: &str) -> Result<(), Fail> {
 /// Gives the name to our file, where another one had it meanwhile.
 fn assert_since(rt: &HostRuntime, name: &mut DirName<'_>) -> Result<(), Fail> {
     name.look_up()?;
-    let mut file = name.open_aside()?;
+    let mut file = name.open_temporary()?;
     file.write_all(b"ours")?;
-    is_private(rt, &path_aside(rt, "since")?)?;
-    has_digits(&path_aside(rt, "since")?)?;
+    is_private(rt, &temporary_path(rt, "since")?)?;
+    has_digits(&temporary_path(rt, "since")?)?;
     fs::write(rt, "since/k", "theirs")?;
     refuses("a look", ErrorKind::AlreadyExists, name.look_up())?;
     refuses("a link", ErrorKind::AlreadyExists, name.link(&file))?;
@@ -378,7 +378,7 @@ fn assert_since(rt: &HostRuntime, name: &mut DirName<'_>) -> Result<(), Fail> {
     name.clear()?;
     name.put_away(&file)?;
     holds(rt, "since/k", "ours")?;
-    has_aside(rt, "since", 0)
+    has_temporary(rt, "since", 0)
 }
 
 /// Holds what is told of a file's name.
@@ -398,29 +398,29 @@ fn never_replaces_a_file_that_came_since(rt: HostRuntime) -> Result<(), Fail> {
     Ok(fs::remove_dir_all(&rt, "since")?)
 }
 
-/// Makes a file aside whose name a folder then has, so that it can't be removed.
-fn left_aside(rt: &HostRuntime, name: &mut DirName<'_>) -> Result<String, Fail> {
-    let _file = name.open_aside()?;
-    let path = path_aside(rt, "stays")?;
+/// Makes a temporary file whose name a folder then has, so that it can't be removed.
+fn temporary_left(rt: &HostRuntime, name: &mut DirName<'_>) -> Result<String, Fail> {
+    let _file = name.open_temporary()?;
+    let path = temporary_path(rt, "stays")?;
     fs::remove_file(rt, path.as_str())?;
     fs::create_dir(rt, path.as_str())?;
     refuses("a removal", ErrorKind::IsADirectory, name.clear())?;
     Ok(path)
 }
 
-/// Makes a file aside whose name somebody else removes.
-fn removed_aside(rt: &HostRuntime, name: &mut DirName<'_>) -> Result<(), Fail> {
-    let _file = name.open_aside()?;
-    fs::remove_file(rt, &path_aside(rt, "stays")?)?;
+/// Makes a temporary file whose name somebody else removes.
+fn temporary_removed(rt: &HostRuntime, name: &mut DirName<'_>) -> Result<(), Fail> {
+    let _file = name.open_temporary()?;
+    fs::remove_file(rt, &temporary_path(rt, "stays")?)?;
     Ok(name.clear()?)
 }
 
 #[test]
-fn tells_a_name_aside_that_stays(rt: HostRuntime) -> Result<(), Fail> {
+fn tells_a_temporary_name_that_stays(rt: HostRuntime) -> Result<(), Fail> {
     make_empty(&rt, "stays")?;
     let mut name = DirName::new(rt.alloc(), &rt, "stays/k");
-    removed_aside(&rt, &mut name)?;
-    let path = left_aside(&rt, &mut name)?;
+    temporary_removed(&rt, &mut name)?;
+    let path = temporary_left(&rt, &mut name)?;
     let left = name.into_left().ok_or("a path")?;
     same_text("stays", "what is left", &path, &left)?;
     Ok(fs::remove_dir_all(&rt, "stays")?)
@@ -465,13 +465,13 @@ fn writes_a_file_in_pieces(rt: HostRuntime) -> Result<(), Fail> {
     let mut store = DirStore::new(&rt);
     begins(&mut store, rt.alloc(), "pieces/k", Ok(Begun::Empty))?;
     is_absent(&rt, "pieces/k")?;
-    has_aside(&rt, "pieces", 1)?;
+    has_temporary(&rt, "pieces", 1)?;
     finishes(&mut store, "pieces/k", "made")?;
     holds(&rt, "pieces/k", "bytes")?;
     is_private(&rt, "pieces/k")?;
-    has_aside(&rt, "pieces", 0)?;
+    has_temporary(&rt, "pieces", 0)?;
     begins(&mut store, rt.alloc(), "pieces/k", Ok(Begun::Exists))?;
-    has_aside(&rt, "pieces", 0)?;
+    has_temporary(&rt, "pieces", 0)?;
     begins(
         &mut store,
         rt.alloc(),
@@ -490,7 +490,7 @@ fn finishes_no_file_whose_place_is_gone(rt: HostRuntime) -> Result<(), Fail> {
     fs::write(&rt, "meanwhile/k", "theirs")?;
     finishes(&mut store, "meanwhile/k", "exists")?;
     holds(&rt, "meanwhile/k", "theirs")?;
-    has_aside(&rt, "meanwhile", 0)?;
+    has_temporary(&rt, "meanwhile", 0)?;
     begins(&mut store, rt.alloc(), "meanwhile/l", Ok(Begun::Empty))?;
     fs::remove_dir_all(&rt, "meanwhile")?;
     finishes(&mut store, "meanwhile/l", "failed")?;
@@ -503,7 +503,7 @@ fn drop_draft(rt: &HostRuntime, name: &str) -> Result<(), Fail> {
     begins(&mut store, rt.alloc(), name, Ok(Begun::Empty))
 }
 
-// A draft that is given up leaves nothing. One that is dropped leaves its name aside, as a killed run does.
+// A draft that is given up leaves nothing. One that is dropped leaves its temporary name, as a killed run does.
 #[test]
 fn a_draft_that_is_not_finished_has_no_name(rt: HostRuntime) -> Result<(), Fail> {
     make_empty(&rt, "unfinished")?;
@@ -511,9 +511,9 @@ fn a_draft_that_is_not_finished_has_no_name(rt: HostRuntime) -> Result<(), Fail>
     begins(&mut store, rt.alloc(), "unfinished/k", Ok(Begun::Empty))?;
     store.give_up();
     is_absent(&rt, "unfinished/k")?;
-    has_aside(&rt, "unfinished", 0)?;
+    has_temporary(&rt, "unfinished", 0)?;
     drop_draft(&rt, "unfinished/k")?;
     is_absent(&rt, "unfinished/k")?;
-    has_aside(&rt, "unfinished", 1)?;
+    has_temporary(&rt, "unfinished", 1)?;
     Ok(fs::remove_dir_all(&rt, "unfinished")?)
 }

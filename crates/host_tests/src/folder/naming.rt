@@ -93,7 +93,7 @@ impl NewName for Traced<'_> {
 
     ghost stage = { λ s. Some (stage_of s.came) };
 
-    ghost aside = { λ s. place_of s.stands };
+    ghost temporary = { λ s. place_of s.stands };
 
     fn look_up(&mut self) -> io::Result<()> {
         match self.call("look") {
@@ -105,9 +105,9 @@ impl NewName for Traced<'_> {
         }
     }
 
-    fn open_aside(&mut self) -> io::Result<Page> {
+    fn open_temporary(&mut self) -> io::Result<Page> {
         let call = if self.calls.as_str() == "look" {
-            "aside"
+            "temporary"
         } else {
             "again"
         };
@@ -118,7 +118,7 @@ impl NewName for Traced<'_> {
                 Ok(self.page())
             }
             Err(error) => {
-                self.came = after_aside(self.came, error.kind());
+                self.came = after_temporary(self.came, error.kind());
                 Err(error)
             }
         }
@@ -197,8 +197,8 @@ fn after_look(came: Came, kind: ErrorKind) -> Came
     }
 }
 
-/// How far the name has come after an open under a name aside that was refused so.
-fn after_aside(came: Came, kind: ErrorKind) -> Came
+/// How far the name has come after an open under a temporary name that was refused so.
+fn after_temporary(came: Came, kind: ErrorKind) -> Came
     ensures starved { kind ≡ ErrorKind.OutOfMemory → result ≡ Came.Starved }
     ensures kept { kind ≢ ErrorKind.OutOfMemory → result ≡ came }
 {
@@ -234,35 +234,35 @@ fn put(came: Came, lasts: bool) -> Came
     }
 }
 
-// The calls that are refused, what is told then, with the cause of a failure, the calls in their order, and where the file aside is in the
-// end: `aside` and `again` make files under names aside, `ours` is refused where the file has the name though
-// its link failed, `clear` removes a name aside, `open` makes a file under the name, `put` puts it away.
+// The calls that are refused, what is told then, with the cause of a failure, the calls in their order, and where the temporary file is in the
+// end: `temporary` and `again` make files under temporary names, `ours` is refused where the file has the name though
+// its link failed, `clear` removes a temporary name, `open` makes a file under the name, `put` puts it away.
 const WAYS: [&str; 25] = [
-    "a new file | | made | look aside link clear put | gone",
+    "a new file | | made | look temporary link clear put | gone",
     "the name is taken | look exists | exists | look | gone",
     "the name can't be looked up | look denied | no permission | look | gone",
     "there is no folder | look missing | no folder | look | gone",
     "there is no memory | look memory | no memory | look | gone",
-    "a name aside is taken | aside exists | made | look aside again link clear put | gone",
-    "no file can be made | aside denied | no permission | look aside | gone",
-    "no memory for a name aside | aside memory | no memory | look aside | gone",
-    "the owner isn't let in | admit denied | no space | look aside clear | gone",
-    "a write fails | write full | no space | look aside clear | gone",
-    "no memory for a write | write memory | no space | look aside clear | gone",
-    "the name was taken since | link exists | exists | look aside link ours clear | gone",
-    "another failure of the link | link full | no space | look aside link ours clear | gone",
-    "no memory for the link | link memory | memory | look aside link ours clear | gone",
-    "a link told twice | link exists, ours so | made | look aside link ours clear put | gone",
-    "a link lost on its way | link full, ours so | made | look aside link ours clear put | gone",
-    "a link of ours, denied | link denied, ours so | made | look aside link ours clear put | gone",
-    "a link isn't permitted | link denied | made | look aside link ours clear open put | gone",
-    "links aren't supported | link unsupported | made | look aside link ours clear open put | gone",
-    "no second link | link links | made | look aside link ours clear open put | gone",
-    "taken, and no links | link denied, open exists | exists | look aside link ours clear open | gone",
-    "no memory, and no links | link denied, open memory | memory | look aside link ours clear open | gone",
-    "the name isn't put away | put full | no space | look aside link clear put | gone",
-    "the name aside stays | clear denied | made | look aside link clear put | left",
-    "it stays behind a failed write | write full, clear denied | no space | look aside clear | left",
+    "a temporary name is taken | temporary exists | made | look temporary again link clear put | gone",
+    "no file can be made | temporary denied | no permission | look temporary | gone",
+    "no memory for a temporary name | temporary memory | no memory | look temporary | gone",
+    "the owner isn't let in | admit denied | no space | look temporary clear | gone",
+    "a write fails | write full | no space | look temporary clear | gone",
+    "no memory for a write | write memory | no space | look temporary clear | gone",
+    "the name was taken since | link exists | exists | look temporary link ours clear | gone",
+    "another failure of the link | link full | no space | look temporary link ours clear | gone",
+    "no memory for the link | link memory | memory | look temporary link ours clear | gone",
+    "a link told twice | link exists, ours so | made | look temporary link ours clear put | gone",
+    "a link lost on its way | link full, ours so | made | look temporary link ours clear put | gone",
+    "a link of ours, denied | link denied, ours so | made | look temporary link ours clear put | gone",
+    "a link isn't permitted | link denied | made | look temporary link ours clear open put | gone",
+    "links aren't supported | link unsupported | made | look temporary link ours clear open put | gone",
+    "no second link | link links | made | look temporary link ours clear open put | gone",
+    "taken, and no links | link denied, open exists | exists | look temporary link ours clear open | gone",
+    "no memory, and no links | link denied, open memory | memory | look temporary link ours clear open | gone",
+    "the name isn't put away | put full | no space | look temporary link clear put | gone",
+    "the temporary name stays | clear denied | made | look temporary link clear put | left",
+    "it stays behind a failed write | write full, clear denied | no space | look temporary clear | left",
 ];
 
 /// A name that refuses these calls, and hasn't been looked up.
@@ -278,7 +278,7 @@ fn named_by(alloc: Global, refused: &str) -> Traced<'_>
     }
 }
 
-/// Where the file aside is, as a word.
+/// Where the temporary file is, as a word.
 fn stands_word(stands: Stands) -> &'static str {
     match stands {
         Stands::Gone => "gone",
@@ -295,7 +295,7 @@ fn assert_way(alloc: Global, row: &str) -> Result<(), Fail> {
     same_text(row, "the calls", cell(row, 3)?, &name.calls)?;
     same_text(
         row,
-        "the name aside",
+        "the temporary name",
         cell(row, 4)?,
         stands_word(name.stands),
     )
@@ -309,37 +309,40 @@ fn links_a_file_once_it_is_whole_and_lasts(rt: HostRuntime) -> Result<(), Fail> 
     Ok(())
 }
 
-// Each name aside that is drawn is taken, a hundred of them, of which only the first is told as `aside`.
+// Each temporary name that is drawn is taken, a hundred of them, of which only the first is told as `temporary`.
 #[test]
-fn gives_up_where_each_name_aside_is_taken(rt: HostRuntime) -> Result<(), Fail> {
-    let mut name = named_by(rt.alloc(), "aside exists, again exists");
+fn gives_up_where_each_temporary_name_is_taken(rt: HostRuntime) -> Result<(), Fail> {
+    let mut name = named_by(rt.alloc(), "temporary exists, again exists");
     let answer = make_file(&mut name, b"x");
     same_text("all taken", "the answer", "other", made_word(&answer))?;
-    assert_eq!(rt; name.calls.len(), "look aside".len() + 99 * " again".len());
+    assert_eq!(rt;
+        name.calls.len(),
+        "look temporary".len() + 99 * " again".len()
+    );
     Ok(())
 }
 
-// The same of a draft: each stage that fails, and where the file aside is in the end. `back` reads the file
+// The same of a draft: each stage that fails, and where the temporary file is in the end. `back` reads the file
 // back, to copy it where there are no links.
 const DRAFTS: [&str; 18] = [
-    "a new file | | made | look aside link clear put | gone",
+    "a new file | | made | look temporary link clear put | gone",
     "the name is taken | look exists | exists | look | gone",
     "there is no folder | look missing | no folder | look | gone",
     "there is no memory | look memory | no memory | look | gone",
-    "no file can be made | aside denied | no permission | look aside | gone",
-    "no memory for a name aside | aside memory | no memory | look aside | gone",
-    "the owner isn't let in | admit denied | no space | look aside clear | gone",
-    "a write fails, and it is given up | write full | no space | look aside clear | gone",
-    "the name was taken since | link exists | exists | look aside link ours clear | gone",
-    "another failure of the link | link full | no space | look aside link ours clear | gone",
-    "a link lost on its way | link full, ours so | made | look aside link ours clear put | gone",
-    "links aren't supported | link unsupported | made | look aside link ours clear open put | gone",
-    "taken, and no links | link denied, open exists | exists | look aside link ours clear open | gone",
-    "no memory, and no links | link denied, open memory | memory | look aside link ours clear open | gone",
-    "not read back, and no links | link denied, back so | changed | look aside link ours clear open | gone",
-    "the name isn't put away | put full | no space | look aside link clear put | gone",
-    "the name aside stays | clear denied | made | look aside link clear put | left",
-    "it stays behind one given up | write full, clear denied | no space | look aside clear | left",
+    "no file can be made | temporary denied | no permission | look temporary | gone",
+    "no memory for a temporary name | temporary memory | no memory | look temporary | gone",
+    "the owner isn't let in | admit denied | no space | look temporary clear | gone",
+    "a write fails, and it is given up | write full | no space | look temporary clear | gone",
+    "the name was taken since | link exists | exists | look temporary link ours clear | gone",
+    "another failure of the link | link full | no space | look temporary link ours clear | gone",
+    "a link lost on its way | link full, ours so | made | look temporary link ours clear put | gone",
+    "links aren't supported | link unsupported | made | look temporary link ours clear open put | gone",
+    "taken, and no links | link denied, open exists | exists | look temporary link ours clear open | gone",
+    "no memory, and no links | link denied, open memory | memory | look temporary link ours clear open | gone",
+    "not read back, and no links | link denied, back so | changed | look temporary link ours clear open | gone",
+    "the name isn't put away | put full | no space | look temporary link clear put | gone",
+    "the temporary name stays | clear denied | made | look temporary link clear put | left",
+    "it stays behind one given up | write full, clear denied | no space | look temporary clear | left",
 ];
 
 /// Writes ten bytes to a new file, piece by piece.
@@ -373,7 +376,7 @@ fn assert_draft(alloc: Global, row: &str) -> Result<(), Fail> {
     same_text(row, "the answer", cell(row, 2)?, made_word(&answer))?;
     same_text(row, "the calls", cell(row, 3)?, &name.calls)?;
     let stands = stands_word(name.stands);
-    same_text(row, "the name aside", cell(row, 4)?, stands)
+    same_text(row, "the temporary name", cell(row, 4)?, stands)
 }
 
 #[test]

@@ -10,7 +10,7 @@ ghost use Rattle.seal_wrap.specs.Wrapping.{GivesKeyset, IsRefusal};
 
 use super::binary_form::read_wrapped_binary;
 use super::json_form::read_wrapped_json;
-use keyset_model::{Keyset, KeysetFault, ReadError, read_binary};
+use keyset_model::{Keyset, KeysetRefusal, ReadError, read_binary};
 use managers::{KeyTable, Managers};
 use std::alloc::Global;
 use tink_base::{NoMemory, Trials};
@@ -31,7 +31,7 @@ pub enum UnwrapFault {
     /// What was opened is no `Keyset` message; this is the place in it of the first field at fault.
     InnerWire(usize),
     /// The first keyset fault of what was opened.
-    Fault(KeysetFault),
+    Fault(KeysetRefusal),
     /// Memory couldn't be allocated.
     NoMemory,
 }

@@ -7,8 +7,8 @@ ghost use Rattle.tinkey_words.specs.Words.{given_in, next_word, option_word, own
 
 use super::misuse::misuse_at;
 use super::options::{Options, no_options, write};
-use super::rows::{is_aside, is_dash, is_flag, is_odd_hex, is_value, option_named, takes};
-use super::{CommandName, Form, Misfit, Misuse, OptionName};
+use super::rows::{is_dash, is_flag, is_odd_hex, is_temporary, is_value, option_named, takes};
+use super::{CommandName, Misfit, Misuse, OptionName, ValueForm};
 
 /// The options of these words, which follow the command.
 #[tactic(auto, unfolding(crate::specs::Words::given_in))]
@@ -143,13 +143,15 @@ fn with_value<'a>(
 }
 
 /// Why a value that isn't of its option's form is at fault.
-fn misvalued(form: Form, command: CommandName, name: OptionName, value: &str) -> Misfit
+fn misvalued(form: ValueForm, command: CommandName, name: OptionName, value: &str) -> Misfit
     ensures { result ≡ misvalued form command name value.now }
 {
     match form {
-        Form::NewFile | Form::Output if is_aside(value) => Misfit::Aside(command, name),
-        Form::NewFile | Form::FileName if is_dash(value) => Misfit::Dash(command, name),
-        Form::Hex if is_odd_hex(value) => Misfit::OddHex(command, name),
+        ValueForm::NewFile | ValueForm::Output if is_temporary(value) => Misfit::Temporary(
+            command, name,
+        ),
+        ValueForm::NewFile | ValueForm::FileName if is_dash(value) => Misfit::Dash(command, name),
+        ValueForm::Hex if is_odd_hex(value) => Misfit::OddHex(command, name),
         _ => Misfit::BadValue(command, name),
     }
 }

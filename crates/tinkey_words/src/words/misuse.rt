@@ -32,7 +32,7 @@ pub enum Misfit {
     /// The value isn't of the option's form, and none of the next three says why.
     BadValue(CommandName, OptionName),
     /// The value is a temporary name, but the option takes a new file's name.
-    Aside(CommandName, OptionName),
+    Temporary(CommandName, OptionName),
     /// The value is `-`, but the option takes a file's own name.
     Dash(CommandName, OptionName),
     /// The value has an odd number of hexadecimal digits, but the option takes two for each byte.

@@ -3,7 +3,7 @@
 ghost use Rattle.std.specs.Prelude.{◌≡◌, ◌<◌};
 ghost use Rattle.tinkey_words.specs.Names.{for_streams, form_for, length_form, option_row, out_form, primitive_of, rival, row, row_of, seen_row};
 
-use super::rows::Form;
+use super::rows::ValueForm;
 use key_msgs::Primitive;
 
 /// A command by its name.
@@ -146,7 +146,7 @@ pub struct CommandRow {
 #[derive(Clone, Copy)]
 pub struct OptionRow {
     pub word: &'static str,
-    pub form: Form,
+    pub form: ValueForm,
 }
 
 impl CommandName {
@@ -398,35 +398,35 @@ impl OptionName {
         ensures form { result.form ≡ (option_row self).form }
     {
         match self {
-            OptionName::KeyTemplate => option("--key-template", Form::Text),
-            OptionName::KeyId => option("--key-id", Form::Number),
-            OptionName::In => option("--in", Form::Input),
-            OptionName::InFormat => option("--in-format", Form::Format),
-            OptionName::Out => option("--out", Form::Output),
-            OptionName::OutFormat => option("--out-format", Form::Format),
-            OptionName::Keyset => option("--keyset", Form::FileName),
-            OptionName::KeysetFormat => option("--keyset-format", Form::Format),
-            OptionName::Ad => option("--ad", Form::Datum),
-            OptionName::AdHex => option("--ad-hex", Form::Hex),
-            OptionName::TagHex => option("--tag-hex", Form::Hex),
-            OptionName::Length => option("--length", Form::Number),
-            OptionName::Seed => option("--seed", Form::Number),
-            OptionName::Lines => option("--lines", Form::LineCount),
-            OptionName::Master => option("--master", Form::FileName),
-            OptionName::MasterFormat => option("--master-format", Form::Format),
-            OptionName::NewMaster => option("--new-master", Form::FileName),
-            OptionName::NewMasterFormat => option("--new-master-format", Form::Format),
-            OptionName::DekTemplate => option("--dek-template", Form::Text),
-            OptionName::File => option("--file", Form::FileName),
-            OptionName::From => option("--from", Form::Offset),
-            OptionName::Hex => option("--hex", Form::Flag),
-            OptionName::As => option("--as", Form::SealedForm),
-            OptionName::For => option("--for", Form::Command),
+            OptionName::KeyTemplate => option("--key-template", ValueForm::Text),
+            OptionName::KeyId => option("--key-id", ValueForm::Number),
+            OptionName::In => option("--in", ValueForm::Input),
+            OptionName::InFormat => option("--in-format", ValueForm::Format),
+            OptionName::Out => option("--out", ValueForm::Output),
+            OptionName::OutFormat => option("--out-format", ValueForm::Format),
+            OptionName::Keyset => option("--keyset", ValueForm::FileName),
+            OptionName::KeysetFormat => option("--keyset-format", ValueForm::Format),
+            OptionName::Ad => option("--ad", ValueForm::Datum),
+            OptionName::AdHex => option("--ad-hex", ValueForm::Hex),
+            OptionName::TagHex => option("--tag-hex", ValueForm::Hex),
+            OptionName::Length => option("--length", ValueForm::Number),
+            OptionName::Seed => option("--seed", ValueForm::Number),
+            OptionName::Lines => option("--lines", ValueForm::LineCount),
+            OptionName::Master => option("--master", ValueForm::FileName),
+            OptionName::MasterFormat => option("--master-format", ValueForm::Format),
+            OptionName::NewMaster => option("--new-master", ValueForm::FileName),
+            OptionName::NewMasterFormat => option("--new-master-format", ValueForm::Format),
+            OptionName::DekTemplate => option("--dek-template", ValueForm::Text),
+            OptionName::File => option("--file", ValueForm::FileName),
+            OptionName::From => option("--from", ValueForm::Offset),
+            OptionName::Hex => option("--hex", ValueForm::Flag),
+            OptionName::As => option("--as", ValueForm::SealedForm),
+            OptionName::For => option("--for", ValueForm::Command),
         }
     }
 
     /// The form of the option's value, for the command.
-    pub fn form_for(self, command: CommandName) -> Form
+    pub fn form_for(self, command: CommandName) -> ValueForm
         ensures { result ≡ form_for self command }
     {
         match self {
@@ -457,26 +457,26 @@ impl OptionName {
 }
 
 /// The form of the value of `--out`.
-fn out_form(command: CommandName) -> Form
+fn out_form(command: CommandName) -> ValueForm
     ensures { result ≡ out_form command }
 {
     match command {
-        CommandName::Session => Form::NewFile,
-        _ => Form::Output,
+        CommandName::Session => ValueForm::NewFile,
+        _ => ValueForm::Output,
     }
 }
 
 /// The form of the value of `--length`.
-fn length_form(command: CommandName) -> Form
+fn length_form(command: CommandName) -> ValueForm
     ensures { result ≡ length_form command }
 {
     match command {
-        CommandName::Srange => Form::RangeLength,
-        _ => Form::Number,
+        CommandName::Srange => ValueForm::RangeLength,
+        _ => ValueForm::Number,
     }
 }
 
-fn option(word: &'static str, form: Form) -> OptionRow
+fn option(word: &'static str, form: ValueForm) -> OptionRow
     ensures word { result.word.now ≡ word.now }
     ensures form { result.form ≡ form }
 {

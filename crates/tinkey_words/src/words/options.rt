@@ -7,12 +7,12 @@ ghost use Rattle.tinkey_words.specs.Words.{lines_in, is_barred, bar, no_options,
 use super::names::OPTION_COUNT;
 use super::rows::{MOST_RANGE, format_named, offset_in, primitive_named, sealed_form_named};
 use super::{
-    CommandName, Datum, Envelope, Format, Master, Misfit, NewLock, OptionName, Output, Place,
+    CommandName, Datum, Envelope, Format, KeysetFile, Master, Misfit, NewLock, OptionName, Output,
     Range, Request, SealedForm, Work,
 };
 use key_msgs::Primitive;
 use tink_base::number_in;
-use tinkey_cmds::Command as Edit;
+use tinkey_cmds::KeysetEdit as Edit;
 
 /// How many lines a self-test has by default.
 const KNOWN_LINES: u32 = 1000;
@@ -134,20 +134,20 @@ impl<'a> Options<'a> {
     }
 
     /// Where a keyset is taken from.
-    pub(super) fn taken_from(&self) -> Place<'a>
+    pub(super) fn taken_from(&self) -> KeysetFile<'a>
         ensures { seen_place result ≡ taken_from (seen_options self.now).values }
     {
-        Place {
+        KeysetFile {
             file: self.value(OptionName::In),
             form: self.form(OptionName::InFormat),
         }
     }
 
     /// Where a keyset is put.
-    pub(super) fn put_to(&self) -> Place<'a>
+    pub(super) fn put_to(&self) -> KeysetFile<'a>
         ensures { seen_place result ≡ put_to (seen_options self.now).values }
     {
-        Place {
+        KeysetFile {
             file: self.value(OptionName::Out),
             form: self.form(OptionName::OutFormat),
         }

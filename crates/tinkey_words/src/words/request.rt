@@ -2,7 +2,7 @@
 
 use super::{Format, Master, NewLock, Range, SealedForm, Topic};
 use key_msgs::Primitive;
-use tinkey_cmds::Command as Edit;
+use tinkey_cmds::KeysetEdit as Edit;
 
 /// What the words ask for.
 #[derive(Clone, Copy)]
@@ -14,7 +14,7 @@ pub enum Request<'a> {
         /// The name of the template of the key.
         template: &'a str,
         /// Where the keyset is put.
-        output: Place<'a>,
+        output: KeysetFile<'a>,
     },
     /// Change a keyset.
     EditKeyset {
@@ -23,16 +23,16 @@ pub enum Request<'a> {
         /// The change.
         edit: Edit<&'a str>,
         /// Where the keyset is taken from.
-        input: Place<'a>,
+        input: KeysetFile<'a>,
         /// Where the changed one is put.
-        output: Place<'a>,
+        output: KeysetFile<'a>,
     },
     /// List a keyset.
     ListKeyset {
         /// The master of the keyset, if it lies under one.
         lock: Option<Master<'a>>,
         /// Where the keyset is taken from.
-        input: Place<'a>,
+        input: KeysetFile<'a>,
     },
     /// List the keys of a keyset with the input's output prefix.
     KeyOf {
@@ -54,9 +54,9 @@ pub enum Request<'a> {
         /// The master under which it is put.
         new: NewLock<'a>,
         /// Where the keyset is taken from.
-        input: Place<'a>,
+        input: KeysetFile<'a>,
         /// Where it is put.
-        output: Place<'a>,
+        output: KeysetFile<'a>,
     },
     /// List the names of the templates.
     ListKeyTemplates {
@@ -139,7 +139,7 @@ pub enum Request<'a> {
         /// The form of the keyset.
         form: Format,
         /// Where the last keyset is put; nowhere if no file is named.
-        output: Place<'a>,
+        output: KeysetFile<'a>,
     },
     /// Answer lines made from a number, and report their outcomes.
     SelfTest {
@@ -217,7 +217,7 @@ pub enum Datum<'a> {
 
 /// Where a keyset is taken from or put.
 #[derive(Clone, Copy)]
-pub struct Place<'a> {
+pub struct KeysetFile<'a> {
     /// The file, or none for standard input and output.
     pub file: Option<&'a str>,
     /// The form of the keyset.

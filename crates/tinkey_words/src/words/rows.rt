@@ -3,12 +3,12 @@
 ghost use Rattle.std.specs.Prelude.{◌≡◌};
 ghost use Rattle.std.specs.List.{list_all};
 ghost use Rattle.hex.specs.Hex.{is_hex_digit};
-ghost use Rattle.tinkey_words.specs.Rows.{command_of, option_of, is_one_of, takes, format_of, sealed_form_of, primitive_named, is_dash, is_hex, is_odd_hex, is_line_count, is_range_length, is_aside, is_value, offset_in, is_flag};
+ghost use Rattle.tinkey_words.specs.Rows.{command_of, option_of, is_one_of, takes, format_of, sealed_form_of, primitive_named, is_dash, is_hex, is_odd_hex, is_line_count, is_range_length, is_temporary, is_value, offset_in, is_flag};
 
 use super::names::{COMMANDS, CommandName, OPTIONS, OptionName};
 use key_msgs::Primitive;
 use std::path::Path;
-use tink_base::{ASIDE, number_in};
+use tink_base::{TEMPORARY, number_in};
 
 /// The most lines of a self-test.
 const MOST_LINES: u32 = 100_000;
@@ -47,7 +47,7 @@ pub enum SealedForm {
 
 /// The form of an option's value.
 #[derive(Clone, Copy)]
-pub enum Form {
+pub enum ValueForm {
     /// Any text.
     Text,
     /// The name of a file, which isn't empty, and isn't `-`.
@@ -128,41 +128,41 @@ pub fn takes(command: CommandName, name: OptionName) -> bool
 
 /// Whether the text is a value of this form.
 #[tactic(auto, unfolding(crate::specs::Rows::is_value))]
-pub fn is_value(form: Form, text: &str) -> bool
+pub fn is_value(form: ValueForm, text: &str) -> bool
     ensures { result ≡ is_value form text.now }
 {
     match form {
-        Form::Text => true,
-        Form::FileName => !text.is_empty() && !is_dash(text),
-        Form::Input => !text.is_empty(),
-        Form::NewFile => !text.is_empty() && !is_dash(text) && !is_aside(text),
-        Form::Output => !text.is_empty() && !is_aside(text),
-        Form::Number => number_in(text).is_some(),
-        Form::LineCount => is_line_count(number_in(text)),
-        Form::RangeLength => is_range_length(number_in(text)),
-        Form::Offset => offset_in(text).is_some(),
-        Form::Format => format_named(text).is_some(),
-        Form::SealedForm => sealed_form_named(text).is_some(),
-        Form::Command => primitive_named(text).is_some(),
-        Form::Datum => text.len() <= DATUM_LIMIT,
-        Form::Hex => is_hex(text),
-        Form::Flag => false,
+        ValueForm::Text => true,
+        ValueForm::FileName => !text.is_empty() && !is_dash(text),
+        ValueForm::Input => !text.is_empty(),
+        ValueForm::NewFile => !text.is_empty() && !is_dash(text) && !is_temporary(text),
+        ValueForm::Output => !text.is_empty() && !is_temporary(text),
+        ValueForm::Number => number_in(text).is_some(),
+        ValueForm::LineCount => is_line_count(number_in(text)),
+        ValueForm::RangeLength => is_range_length(number_in(text)),
+        ValueForm::Offset => offset_in(text).is_some(),
+        ValueForm::Format => format_named(text).is_some(),
+        ValueForm::SealedForm => sealed_form_named(text).is_some(),
+        ValueForm::Command => primitive_named(text).is_some(),
+        ValueForm::Datum => text.len() <= DATUM_LIMIT,
+        ValueForm::Hex => is_hex(text),
+        ValueForm::Flag => false,
     }
 }
 
 /// Whether the form is a flag's: a word without a value.
-pub fn is_flag(form: Form) -> bool
+pub fn is_flag(form: ValueForm) -> bool
     ensures { result ≡ is_flag form }
 {
-    matches!(form, Form::Flag)
+    matches!(form, ValueForm::Flag)
 }
 
 /// Whether the path is a temporary name, under which new files are filled, by its last component.
-pub fn is_aside(path: &str) -> bool
-    ensures { result ≡ is_aside path.now }
+pub fn is_temporary(path: &str) -> bool
+    ensures { result ≡ is_temporary path.now }
 {
     match Path::new(path).file_name() {
-        Some(last) => last.starts_with(ASIDE),
+        Some(last) => last.starts_with(TEMPORARY),
         None => false,
     }
 }

@@ -1,6 +1,6 @@
 -- The answer of each exit: the faults before it are none.
 use Rattle.std.proofs.Common.{not, ap}
-use Rattle.keyset_model.specs.declared.keyset.KeysetFault.TheVariants.{UnknownStatus, UnknownPrefix, UnknownMaterial, MissingKeyData}
+use Rattle.keyset_model.specs.declared.keyset.KeysetRefusal.TheVariants.{UnknownStatus, UnknownPrefix, UnknownMaterial, MissingKeyData}
 use Rattle.keyset_model.specs.Keyset.{fault_of, ambiguous}
 use Rattle.keyset_model.proofs.Exits.{here, on, end, holds, fails, more, fewer, at, nowhere}
 use Rattle.keyset_model.proofs.faults.fault_of.Goals as goal

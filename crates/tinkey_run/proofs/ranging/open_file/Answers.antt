@@ -1,6 +1,6 @@
 use Rattle.std.proofs.Common.{◌-◌, ◌∙◌, sym}
 use Rattle.segment_stream.specs.StreamKeys.{largest_of}
-use Rattle.tinkey_plans.specs.Ranging.{stretch_for}
+use Rattle.tinkey_plans.specs.Ranging.{range_for}
 use Rattle.tinkey_words.specs.Words.{seen_range}
 use Rattle.tinkey_run.proofs.RangingLemmas.{gave_rise, gives_rise, past_rise, same_kept}
 use Rattle.tinkey_run.proofs.ranging.open_file.Goals as goal
@@ -19,7 +19,7 @@ pub returns-clause-gave : goal.returns-clause-gave
 returns-clause-gave g c =
     let back = c.store-1.given.1 (sym (c.open_range.ensures.lent ∙ c.over-device.ensures.lends)) in
     let e = c.open_range.ensures in
-    let x = stretch_for c.args.keys.now c.args.ad.now (seen_range c.args.range) in
+    let x = range_for c.args.keys.now c.args.ad.now (seen_range c.args.range) in
     let old = g.D.Store.state c.args.store.now in
     let new = g.D.Store.state c.open_range.new.device.store.now in
     let told = rw (c.over-device.ensures.store, c.over-device.ensures.name, c.from.ensures) at e.given in

@@ -111,7 +111,7 @@ pub returns-in-OpenRange : goal.returns-in-OpenRange
 returns-in-OpenRange g c =
     let w = world (g.S.Source.state c.args.source.now) (g.K.Sink.state c.args.sink.now) (g.D.Store.state c.args.store.now) (g.E.Entropy.state c.args.entropy.now) in
     let x = c.in-OpenRange in
-    rw x.is (c.finish_output-in-OpenRange.ensures (range_output _ (seen_lock x.lock) x.keyset.now x.form (seen_datum x.ad) (seen_range x.range)) w (record w { store = g.D.Store.state c.open_stretch-opened.new.store }) (c.open_stretch-opened.ensures w))
+    rw x.is (c.finish_output-in-OpenRange.ensures (range_output _ (seen_lock x.lock) x.keyset.now x.form (seen_datum x.ad) (seen_range x.range)) w (record w { store = g.D.Store.state c.open_file_range-opened.new.store }) (c.open_file_range-opened.ensures w))
 
 pub returns-in-Session : goal.returns-in-Session
 returns-in-Session g c = rw c.in-Session.is c.answer_lines.ensures

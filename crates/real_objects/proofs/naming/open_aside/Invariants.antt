@@ -1,6 +1,0 @@
-use Rattle.std.proofs.Common.{◌≡◌}
-use Rattle.real_objects.proofs.naming.open_aside.Given as goal
-
--- no file was made under a name aside
-abbrev pub invariant-loop : goal.invariant-loop
-invariant-loop g l = (g.N.NewName.stage l.name ≡ g.N.NewName.stage l.initial.name) × (g.N.NewName.aside l.name ≡ g.N.NewName.aside l.initial.name)
