@@ -38,6 +38,7 @@ pub struct DirStore<'a> {
     given: u64,
     left: Option<String>,
     draft: Option<DirDraft>,
+    opened: Option<OpenFileOf>,
 }
 
 /// The calls that failed, of which there is at least one.
@@ -46,6 +47,14 @@ struct Faults {
     count: u64,
     // why the last one did
     last: Cause,
+}
+
+/// The file that was read at an offset last, which stays open.
+#[derive(Drop)]
+struct OpenFileOf {
+    // the name by which it was opened
+    name: String,
+    file: File,
 }
 
 /// A new file that is written in pieces, under a temporary name.
@@ -74,6 +83,7 @@ impl<'a> DirStore<'a> {
             given: 0,
             left: None,
             draft: None,
+            opened: None,
         }
     }
 
@@ -107,6 +117,32 @@ impl<'a> DirStore<'a> {
     {
         if let Some(path) = place.into_left() {
             self.left = Some(path);
+        }
+    }
+
+    /// The file that is open under this name, which then isn't kept any longer.
+    fn take_open(&mut self, name: &str) -> Option<File>
+        ensures left { kept_path self.new ≡ kept_path self.old }
+        ensures drafted { drafted self.new ≡ drafted self.old }
+        ensures cause { kept_cause self.new ≡ kept_cause self.old }
+        ensures told { told_files self.new ≡ told_files self.old }
+    {
+        match self.opened.take() {
+            Some(kept) if kept.name.as_str() == name => Some(kept.file),
+            _ => None,
+        }
+    }
+
+    /// Keeps a file open under this name for the next read. If memory for the name can't be
+    /// allocated, the file is closed.
+    fn keep_open(&mut self, name: &str, file: File)
+        ensures left { kept_path self.new ≡ kept_path self.old }
+        ensures drafted { drafted self.new ≡ drafted self.old }
+        ensures cause { kept_cause self.new ≡ kept_cause self.old }
+        ensures told { told_files self.new ≡ told_files self.old }
+    {
+        if let Ok(name) = String::from_str(self.rt.alloc(), name) {
+            self.opened = Some(OpenFileOf { name, file });
         }
     }
 
@@ -189,10 +225,20 @@ impl Store for DirStore<'_> {
         }
     }
 
+    /// The file stays open for the next read of the same name, so a range is read from one file
+    /// even if its name passes to another file meanwhile. A read of another name, or one that
+    /// fails, closes it. Memory is taken for the name.
     fn read_at(&mut self, name: &str, at: u64, out: &mut [u8]) -> Result<usize, Failed> {
-        match read_opened(fs::open(self.rt, name), at, out) {
+        let opened = match self.take_open(name) {
+            Some(file) => Ok(file),
+            None => fs::open(self.rt, name),
+        };
+        match read_opened(&opened, at, out) {
             Ok(n) => {
                 self.given = self.given.saturating_add(n as u64);
+                if let Ok(file) = opened {
+                    self.keep_open(name, file);
+                }
                 Ok(n)
             }
             Err(cause) => Err(self.fail(cause)),

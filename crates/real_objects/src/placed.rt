@@ -71,28 +71,28 @@ pub fn size_of(found: io::Result<Metadata>) -> Result<Option<u64>, Cause>
 /// Reads bytes of the opened file from offset `at` on: at least one. The rest of `out` is
 /// unchanged. A read interrupted by a signal is tried again. A file that is no longer there, or no
 /// longer has a byte there, has changed.
-pub fn read_opened<F: PlacedFile + Drop>(
-    opened: io::Result<F>,
+pub fn read_opened<F: PlacedFile>(
+    opened: &io::Result<F>,
     at: u64,
     out: &mut [u8],
 ) -> Result<usize, Cause>
-    ensures read { IfOk opened (λ file. IfOk result (IsPieceAt (F.bytes file) at out.new)) }
+    ensures read { IfOk opened.now (λ file. IfOk result (IsPieceAt (F.bytes file) at out.new)) }
     ensures bound { IfOk result (λ n. (1 ≤ n) × (n ≤ length out.new)) }
     ensures rest { IfOk result (λ n. drop n out.new ≡ drop n out.old) }
-    ensures gone { IfErr opened (λ error. IsMissing (error_kind error) →
+    ensures gone { IfErr opened.now (λ error. IsMissing (error_kind error) →
         result ≡ Err Cause.Changed) }
-    ensures unopened { IfErr opened (λ error. ¬ (IsMissing (error_kind error)) →
+    ensures unopened { IfErr opened.now (λ error. ¬ (IsMissing (error_kind error)) →
         result ≡ Err (cause_of error)) }
 {
     match opened {
-        Ok(file) => match placed_through_signals(&file, at, out) {
+        Ok(file) => match placed_through_signals(file, at, out) {
             Ok(n) if n > 0 => Ok(n),
             Ok(_) => Err(Cause::Changed),
             Err(error) => Err(cause_of(&error)),
         },
         Err(error) => match error.kind() {
             ErrorKind::NotFound | ErrorKind::NotADirectory => Err(Cause::Changed),
-            _ => Err(cause_of(&error)),
+            _ => Err(cause_of(error)),
         },
     }
 }

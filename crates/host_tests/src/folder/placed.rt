@@ -88,9 +88,15 @@ const READS: [(&str, u64, &str); 7] = [
 ];
 
 /// Reads up to four bytes of a file at a place.
-fn assert_read_at(rt: &HostRuntime, name: &str, at: u64, want: &str) -> Result<(), Fail> {
+fn assert_read_at(
+    rt: &HostRuntime,
+    store: &mut DirStore<'_>,
+    name: &str,
+    at: u64,
+    want: &str,
+) -> Result<(), Fail> {
     let mut out = [0; 4];
-    let found = match DirStore::new(rt).read_at(name, at, &mut out) {
+    let found = match store.read_at(name, at, &mut out) {
         Ok(n) => &out[..n],
         Err(Failed) => b"failed".as_slice(),
     };
@@ -101,7 +107,42 @@ fn assert_read_at(rt: &HostRuntime, name: &str, at: u64, want: &str) -> Result<(
 fn reads_files_at_places(rt: HostRuntime) -> Result<(), Fail> {
     fs::write(&rt, "read-file", b"bytes")?;
     for (name, at, want) in &READS {
-        assert_read_at(&rt, name, *at, want)?;
+        assert_read_at(&rt, &mut DirStore::new(&rt), name, *at, want)?;
+    }
+    Ok(())
+}
+
+/// By turns of two files.
+const TURNS: [(&str, u64, &str); 5] = [
+    ("open-one", 0, "firs"),
+    ("open-two", 0, "seco"),
+    ("open-one", 3, "st"),
+    ("open-two", 4, "nd"),
+    ("open-two", 0, "seco"),
+];
+
+/// After another file got the second name: the file of the last read stays open until a read of
+/// another name, or one that fails.
+const REPLACED: [(&str, u64, &str); 5] = [
+    ("open-two", 4, "nd"),
+    ("open-two", 6, "failed"),
+    ("open-two", 0, "thir"),
+    ("open-one", 0, "firs"),
+    ("open-two", 2, "ird"),
+];
+
+#[test]
+fn keeps_the_file_of_the_last_read_open(rt: HostRuntime) -> Result<(), Fail> {
+    fs::write(&rt, "open-one", b"first")?;
+    fs::write(&rt, "open-two", b"second")?;
+    let mut store = DirStore::new(&rt);
+    for (name, at, want) in &TURNS {
+        assert_read_at(&rt, &mut store, name, *at, want)?;
+    }
+    fs::write(&rt, "open-three", b"third")?;
+    fs::rename(&rt, "open-three", "open-two")?;
+    for (name, at, want) in &REPLACED {
+        assert_read_at(&rt, &mut store, name, *at, want)?;
     }
     Ok(())
 }
@@ -149,11 +190,11 @@ fn reads_again_behind_a_signal() -> Result<(), Fail> {
             interrupts: Cell::new(interrupts),
             gives,
         };
-        answers(read_opened(Ok(file), 7, &mut [0; 4]), want)?;
+        answers(read_opened(&Ok(file), 7, &mut [0; 4]), want)?;
     }
     let unopened = Err::<Zeros, io::Error>(io::Error::from(ErrorKind::PermissionDenied));
     answers(
-        read_opened(unopened, 0, &mut [0; 4]),
+        read_opened(&unopened, 0, &mut [0; 4]),
         Err(Cause::NoPermission),
     )
 }
