@@ -228,7 +228,7 @@ ends same "$(zeros 16 | shaped same)" none
 refuse open open --keyset gcm --keyset-format binary
 hex "${sealed%??}de" | takes
 ends same '' none
-status=1 line=$'tinkey: open failed\ntinkey: sealed under key 16909060, which is ENABLED: other associated data, or the text was changed'
+status=1 line=$'tinkey: open failed\ntinkey open: sealed under key 16909060, which is ENABLED: other associated data, or the text was changed'
 refuse closed open --keyset gcm --keyset-format binary
 envelope=0000003301010203040000000000000000000000001998dace60b6a392f328c2b971b2fe78f7956d5be285ef332e80174f60c6e290b102
 envelope=${envelope}000000000000000000000000${sealed:34}
@@ -298,7 +298,7 @@ ends replies "$replies" "listing $(shaped listing < "$files/gcm")"
 refuse session session --keyset gcm --keyset-format binary --out n --out-format binary
 session | takes
 ends same '' none
-status=4 line=$'tinkey: output file exists\ntinkey: no file is ever replaced: give --out another name'
+status=4 line=$'tinkey: output file exists\ntinkey session: no file is ever replaced: give --out another name'
 refuse taken session --keyset gcm --keyset-format binary --out gcm --out-format binary
 takes < /dev/null
 ends same "$(text 'lines 4 seals 3 opened 0 refused 0 edits 1 declined 0 lost 0')" none

@@ -95,19 +95,19 @@ key_info {
 // and output are terminals.
 const RUNS: [&str; 14] = [
     "a listing | list-keyset --in-format binary | keyset | 0 | | listing |",
-    "a tag of another length | verify --keyset k --keyset-format binary --tag-hex 00 | 61 | 1 | tinkey: verify failed\ntinkey: no ENABLED key of the keyset makes this tag of this input | |",
+    "a tag of another length | verify --keyset k --keyset-format binary --tag-hex 00 | 61 | 1 | tinkey: verify failed\ntinkey verify: no ENABLED key of the keyset makes this tag of this input | |",
     "no such command | no-command | | 2 | tinkey: usage: word 0\ntinkey: no such command: see tinkey help | |",
-    "no protobuf | list-keyset --in-format binary | ff | 3 | tinkey: bad protobuf at byte 0\ntinkey: standard input is damaged, or isn't a keyset | |",
-    "no such file | tag --keyset n --keyset-format binary | 61 | 4 | tinkey: input file missing\ntinkey: the file that --keyset gives is not there | |",
+    "no protobuf | list-keyset --in-format binary | ff | 3 | tinkey: bad protobuf at byte 0\ntinkey list-keyset: standard input is damaged, or isn't a keyset | |",
+    "no such file | tag --keyset n --keyset-format binary | 61 | 4 | tinkey: input file missing\ntinkey tag: the file that --keyset gives is not there | |",
     "a read that fails | list-keyset --in-format binary | fails | 5 | tinkey: read fault | |",
-    "a byte too many | list-keyset --in-format binary | long | 6 | tinkey: keyset too long\ntinkey: a keyset has at most 1048576 bytes, and an encrypted one 4194304 | |",
+    "a byte too many | list-keyset --in-format binary | long | 6 | tinkey: keyset too long\ntinkey list-keyset: standard input is too long: a keyset has at most 1048576 bytes, and an encrypted one 4194304 | |",
     "memory refused | tag --keyset k --keyset-format binary | no memory | 7 | tinkey: out of memory | |",
     "a word that isn't UTF-8 | ff | | 8 | tinkey: usage: word 0\ntinkey: a word is UTF-8 text: see tinkey help | |",
     "a keyset in clear isn't for a terminal | create-keyset --key-template AES128_GCM | | 4 | tinkey: output is a terminal\ntinkey: this isn't for a screen: give --out FILE, or redirect the output | | out",
     "nor is a tag | tag --keyset k --keyset-format binary | fails | 4 | tinkey: output is a terminal\ntinkey: this isn't for a screen: give --out FILE, or redirect the output | | both",
     "a listing is, and a terminal is read | list-keyset --in-format binary | keyset | 0 | tinkey: reading from the terminal; Ctrl-D ends the input | listing | both",
-    "nothing is written | verify --keyset k --keyset-format binary --tag-hex 00 | 61 | 1 | tinkey: reading from the terminal; Ctrl-D ends the input\ntinkey: verify failed\ntinkey: no ENABLED key of the keyset makes this tag of this input | | both",
-    "a file is read | list-keyset --in n | fails | 4 | tinkey: input file missing\ntinkey: the file that --in gives is not there | | both",
+    "nothing is written | verify --keyset k --keyset-format binary --tag-hex 00 | 61 | 1 | tinkey: reading from the terminal; Ctrl-D ends the input\ntinkey: verify failed\ntinkey verify: no ENABLED key of the keyset makes this tag of this input | | both",
+    "a file is read | list-keyset --in n | fails | 4 | tinkey: input file missing\ntinkey list-keyset: the file that --in gives is not there | | both",
 ];
 
 /// The input of a row.

@@ -34,6 +34,7 @@ use Rattle.tinkey_words.specs.declared.words.rows.SealedForm.{SealedForm}
 use Rattle.tinkey_words.specs.declared.words.rows.SealedForm.TheVariants as sealed
 use Rattle.tinkey_words.specs.Words.{Asked, Lock, KeysetFile, primitive_for, create_keyset, edit_keyset, list_keyset, key_of, convert_keyset, list_key_templates, use_keyset, use_envelope, seal_stream, open_stream, reseal_stream, open_range, self_test, session, help, version, words_of}
 use Rattle.wrapped_prims.specs.Fitness.{unfit}
+use Rattle.tinkey_plans.specs.declared.unfit.UnfitKey.{UnfitKey}
 
 abbrev pub IsDrawing : Plan → Type 0
 IsDrawing (ends s stated) = Unit {0}
@@ -81,10 +82,10 @@ counts_drawing : (r : Result Counts EditRefusal) (lines : ℕ) → IsDrawing (te
 counts_drawing (Ok n) lines = tt
 counts_drawing (Err fault) lines = tt
 
-stream_fit_drawing : (found : Option (ℕ × streams.StreamUnfit)) (next : Plan) → IsDrawing next → IsDrawing (streaming.unless_unfit found next)
-stream_fit_drawing None next all = all
-stream_fit_drawing (Some (i, streams.not_stream)) next all = tt
-stream_fit_drawing (Some (i, streams.bad_key rule)) next all = tt
+stream_fit_drawing : (name : ℕ → UnfitKey) (found : Option (ℕ × streams.StreamUnfit)) (next : Plan) → IsDrawing next → IsDrawing (streaming.unless_unfit name found next)
+stream_fit_drawing name None next all = all
+stream_fit_drawing name (Some (i, streams.not_stream)) next all = tt
+stream_fit_drawing name (Some (i, streams.bad_key rule)) next all = tt
 
 stream_keys_drawing : (found : Option KeysForStreams) (next : KeysForStreams → Plan) → AreAll IsDrawing next → IsDrawing (streaming.with_keys found next)
 stream_keys_drawing None next all = tt
@@ -120,12 +121,12 @@ session_drawing : (table : Table) (master : Option Keys) (out : KeysetFile) (key
 session_drawing table master out keys = free_drawing out.file _ ((table, keys, refl), saved_drawing table master out.file out.form)
 
 streams_drawing : (table : Table) (lock : Lock) (name : List ℕ) (form : Format) (next : KeysForStreams → Plan) → AreAll IsDrawing next → IsDrawing (streaming.loads_stream_keys table lock name form next)
-streams_drawing table lock name form next all = loaded_each IsDrawing open_drawing table lock name form _ (λ keys. stream_fit_drawing (streams.stream_unfit keys) _ (stream_keys_drawing (streaming.keys_for keys) next all))
+streams_drawing table lock name form next all = loaded_each IsDrawing open_drawing table lock name form _ (λ keys. stream_fit_drawing _ (streams.stream_unfit keys) _ (stream_keys_drawing (streaming.keys_for keys) next all))
 
 tells_drawing : (kind : SealedForm) (ad : List ℕ) (keys : Keys) → IsDrawing (tells_keys kind ad keys writes)
 tells_drawing sealed.Text ad keys = λ front. lines_each IsDrawing closed (key_of_answer keys front) writes (λ lines. tt)
 tells_drawing sealed.Envelope ad keys = λ front. lines_each IsDrawing closed (key_of_answer keys (drop 4 front)) writes (λ lines. tt)
-tells_drawing sealed.Stream ad keys = stream_fit_drawing (streams.stream_unfit keys) _ (stream_keys_drawing (streaming.keys_for keys) (tells_front ad keys writes) (λ those front. lines_each IsDrawing closed (stream_record_line keys ad front) writes (λ lines. tt)))
+tells_drawing sealed.Stream ad keys = stream_fit_drawing _ (streams.stream_unfit keys) _ (stream_keys_drawing (streaming.keys_for keys) (tells_front ad keys writes) (λ those front. lines_each IsDrawing closed (stream_record_line keys ad front) writes (λ lines. tt)))
 
 commands_are_drawing : (table : Table) (asked : Asked) → IsDrawing (command_plan table asked)
 commands_are_drawing table (create_keyset lock name out) = row_each IsDrawing closed (row_named name) name _ (λ row. lock_each IsDrawing open_drawing table lock _ (λ master. made_drawing (first row) (creation row) refl _ (out_drawing table master out)))
@@ -134,8 +135,8 @@ commands_are_drawing table (list_keyset lock in') = locked_each IsDrawing open_d
 commands_are_drawing table (key_of lock name form kind ad) = loaded_each IsDrawing open_drawing table lock name form _ (tells_drawing kind ad)
 commands_are_drawing table (convert_keyset lock new in' out) = lock_each IsDrawing open_drawing table lock _ (λ taken. new_lock_each IsDrawing open_drawing table new taken _ (λ put. under_each IsDrawing open_drawing origins.In table taken in' _ (out_drawing table put out)))
 commands_are_drawing table (list_key_templates primitive) = tt
-commands_are_drawing table (use_keyset lock name form work out) = loaded_each IsDrawing open_drawing table lock name form _ (λ keys. fit_each IsDrawing closed (unfit keys (primitive_for work) table) _ (λ input. work_each IsDrawing closed table keys work input (λ plain ad next all. ((sealing table keys plain ad, refl), all)) (puts_output out) (shown_drawing out.hex out.file)))
-commands_are_drawing table (use_envelope lock name form template work out) = dek_each IsDrawing closed template _ (λ row. loaded_each IsDrawing open_drawing table lock name form _ (λ keys. fit_each IsDrawing closed (unfit keys Aead table) _ (scheme_each IsDrawing closed (scheme_at table Aead (url_made row)) _ (λ scheme input. envelope_each IsDrawing closed table keys scheme row work input (λ ad next all. ((enveloping table keys scheme row input ad, refl), all)) (λ plain ad next all. ((sealing table keys plain ad, refl), all)) (puts out) (put_drawing out)))))
+commands_are_drawing table (use_keyset lock name form work out) = loaded_each IsDrawing open_drawing table lock name form _ (λ keys. fit_each IsDrawing closed _ (unfit keys (primitive_for work) table) _ (λ input. work_each IsDrawing closed table keys work input (λ plain ad next all. ((sealing table keys plain ad, refl), all)) (puts_output out) (shown_drawing out.hex out.file)))
+commands_are_drawing table (use_envelope lock name form template work out) = dek_each IsDrawing closed template _ (λ row. loaded_each IsDrawing open_drawing table lock name form _ (λ keys. fit_each IsDrawing closed _ (unfit keys Aead table) _ (scheme_each IsDrawing closed (scheme_at table Aead (url_made row)) _ (λ scheme input. envelope_each IsDrawing closed table keys scheme row work input (λ ad next all. ((enveloping table keys scheme row input ad, refl), all)) (λ plain ad next all. ((sealing table keys plain ad, refl), all)) (puts out) (put_drawing out)))))
 commands_are_drawing table (seal_stream lock name form ad out) = streams_drawing table lock name form _ (λ k. stream_drawing k ad out)
 commands_are_drawing table (open_stream lock name form ad out) = streams_drawing table lock name form _ (λ k. unstream_drawing k ad out)
 commands_are_drawing table (reseal_stream lock name form ad out) = streams_drawing table lock name form _ (λ k. restream_drawing k ad out)

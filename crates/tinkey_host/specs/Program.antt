@@ -12,6 +12,7 @@ use Rattle.tinkey_plans.specs.Promises.{Promised}
 use Rattle.tinkey_host.specs.NotText.{not_text_lines}
 use Rattle.tinkey_host.specs.Terminals.{is_kept_off, kept_off_lines, waiting_line, waits}
 use Rattle.tinkey_host.specs.declared.terminals.Terminals.{Terminals}
+use Rattle.tinkey_plans.specs.Mentions.{mention_of, no_mention}
 use Rattle.tinkey_plans.specs.Status.{code_of, Reports, Wrote}
 use Rattle.tinkey_plans.specs.declared.status.Status.{Status}
 use Rattle.tinkey_plans.specs.declared.status.Status.TheVariants as statuses
@@ -26,7 +27,7 @@ start_plan words = allocates (plan_of standard_table words)
 abbrev pub IsStarted : List (List ℕ) → World → SinkState → Result Status NoMemory → World → SinkState
     → Type 0
 IsStarted words old before (Ok status) new after =
-    Promised (plan_of standard_table words) old status new × Reports status before after
+    Promised (plan_of standard_table words) old status new × Reports (mention_of words) status before after
 IsStarted words old before (Err error) new after = (old ≡ new) × (before ≡ after)
 
 -- The run of these words ended with this exit code. The status that the code tells is one that the
@@ -35,7 +36,7 @@ pub record HasRun (words : List (List ℕ)) (old new : World) (before after : Si
   pub status : Status
   pub told : code ≡ code_of status
   pub promised : Promised (start_plan words) old status new
-  pub line : Reports status before after
+  pub line : Reports (mention_of words) status before after
 
 -- How the words were obeyed at terminals. A command that is kept off one did nothing, and that was reported; one
 -- that reads from one said so, and then ran; any other ran.
@@ -50,13 +51,13 @@ HasMet false false words old new before after code = HasRun words old new before
 pub data HasObeyed (terminals : Terminals) (told : Option (List (List ℕ))) (old new : World) (before after : SinkState) (code : ℕ) : Type 0 where
   has_met : (words : List (List ℕ)) → IfSome told (λ t. words ≡ drop 1 t) → HasMet (is_kept_off terminals words) (waits terminals words) words old new before after code → HasObeyed terminals told old new before after code
   not_text : (place : ℕ) → code ≡ 8 → IfSome told (λ t. IsFirstNotText t place) → old ≡ new → Wrote (not_text_lines place) before after → HasObeyed terminals told old new before after code
-  no_memory : code ≡ 7 → old ≡ new → Reports statuses.NoMemory before after → HasObeyed terminals told old new before after code
+  no_memory : code ≡ 7 → old ≡ new → Reports no_mention statuses.NoMemory before after → HasObeyed terminals told old new before after code
 
 -- How a command line was obeyed whose first sink was asked, in the end, for a fault that it kept back: as it was
 -- obeyed; or that ended well, and then the sink told one, which is a write fault, though it took each byte.
 pub data HasEnded (terminals : Terminals) (told : Option (List (List ℕ))) (old new : World) (before after : SinkState) (code : ℕ) : Type 0 where
   as_obeyed : HasObeyed terminals told old new before after code → HasEnded terminals told old new before after code
-  late_fault : (sink between : SinkState) → HasObeyed terminals told old (world new.source sink new.store new.entropy) before between 0 → RoseOnce sink.faults new.sink.faults → Took sink new.sink [] → code ≡ code_of statuses.WriteFault → Reports statuses.WriteFault between after → HasEnded terminals told old new before after code
+  late_fault : (sink between : SinkState) → HasObeyed terminals told old (world new.source sink new.store new.entropy) before between 0 → RoseOnce sink.faults new.sink.faults → Took sink new.sink [] → code ≡ code_of statuses.WriteFault → Reports no_mention statuses.WriteFault between after → HasEnded terminals told old new before after code
 
 -- How the program ended, over the system's objects, whatever these tell: as a command line is obeyed over them; or
 -- memory for reading standard input ahead was refused before that.

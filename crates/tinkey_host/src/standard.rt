@@ -7,6 +7,7 @@ ghost use Rattle.managers.specs.Standard.{standard_table};
 ghost use Rattle.tinkey_plans.specs.Ends.{world};
 ghost use Rattle.tinkey_plans.specs.Promises.{Promised};
 ghost use Rattle.tinkey_readable.specs.Readable.{IsReadable};
+ghost use Rattle.tinkey_plans.specs.Mentions.{mention_of};
 ghost use Rattle.tinkey_plans.specs.Status.{Reports};
 ghost use Rattle.tinkey_host.specs.Program.{start_plan, IsStarted};
 
@@ -37,7 +38,8 @@ pub fn start<S: Source, K: Sink, G: Sink, E: Lookahead, D: PieceStore>(
     ensures promised { Promised (start_plan (map string_bytes words.now))
         (world (S.state source.old) (K.state sink.old) (D.state store.old) (E.state entropy.old)) result
         (world (S.state source.new) (K.state sink.new) (D.state store.new) (E.state entropy.new)) }
-    ensures line { Reports result (G.state diag.old) (G.state diag.new) }
+    ensures line { Reports (mention_of (map string_bytes words.now)) result
+        (G.state diag.old) (G.state diag.new) }
     ensures readable { IsReadable standard_table (map string_bytes words.now)
         (world (S.state source.old) (K.state sink.old) (D.state store.old) (E.state entropy.old)) result
         (world (S.state source.new) (K.state sink.new) (D.state store.new) (E.state entropy.new)) }

@@ -21,7 +21,7 @@ use std::alloc::Global;
 use std::io::{IsTerminal, Stderr};
 use std::process::ExitCode;
 use tink_base::{Failed, Lookahead, PieceStore, Sink, Source};
-use tinkey_plans::report;
+use tinkey_plans::{no_mention, report};
 use tinkey_run::{Status, starve};
 
 /// The exit code if a word isn't UTF-8.
@@ -114,7 +114,7 @@ where
     match sink.settle() {
         Ok(()) => code,
         Err(Failed) => {
-            report(diag, Status::WriteFault);
+            report(diag, no_mention(), Status::WriteFault);
             ExitCode::from(Status::WriteFault.code())
         }
     }

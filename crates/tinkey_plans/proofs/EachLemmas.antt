@@ -46,6 +46,7 @@ use Rattle.tinkey_plans.specs.KeyOf.{with_lines}
 use Rattle.tinkey_plans.specs.Ranging.{with_range}
 use Rattle.tinkey_plans.specs.FileRange.{Opened}
 use Rattle.tinkey_plans.specs.Envelopes.{envelopes, finds_dek, seals_envelope, with_aead, with_enveloped, with_parts, with_scheme}
+use Rattle.tinkey_plans.specs.declared.unfit.UnfitKey.{UnfitKey}
 
 -- the rest of a plan is so, whatever it takes
 abbrev pub AreAll : {A : Type 0} → (Plan → Type 0) → (A → Plan) → Type 0
@@ -67,20 +68,20 @@ ended_each P c false s t a other = c.ended t other
 
 pub with_keyset_each : (P : Plan → Type 0) → IsClosed P → (from : Origin) (begins : Begins) (locked : Bool → Bool) (r : Result Keys Refusal) (next : Keys → Plan) → AreAll P next → P (with_keyset from begins locked r next)
 with_keyset_each P c from begins locked (Err (Wire at)) next all = ended_each P c (locked false) (status.ProtoLocked at from) (status.BadProto at from begins) tt tt
-with_keyset_each P c from begins locked (Err (Fault fault)) next all = ended_each P c (locked true) (status.KeysetLocked fault from) (status.Keyset fault) tt tt
+with_keyset_each P c from begins locked (Err (Fault fault)) next all = ended_each P c (locked true) (status.KeysetLocked fault from) (status.Keyset fault from) tt tt
 with_keyset_each P c from begins locked (Ok keys) next all = all keys
 
 pub with_json_each : (P : Plan → Type 0) → IsClosed P → (from : Origin) (begins : Begins) (locked : Bool) (r : Result Keys Json.Refusal) (next : Keys → Plan) → AreAll P next → P (with_json from begins locked r next)
 with_json_each P c from begins locked (Err Json.NotJson) next all = c.ended _ _
 with_json_each P c from begins locked (Err (Json.Shape path)) next all = c.ended _ _
-with_json_each P c from begins locked (Err (Json.Fault fault)) next all = ended_each P c (locked && has_no_key fault) (status.KeysetLocked fault from) (status.Keyset fault) tt tt
+with_json_each P c from begins locked (Err (Json.Fault fault)) next all = ended_each P c (locked && has_no_key fault) (status.KeysetLocked fault from) (status.Keyset fault from) tt tt
 with_json_each P c from begins locked (Ok keys) next all = all keys
 
 pub keyset_each : (P : Plan → Type 0) → IsClosed P → (from : Origin) (form : Format) (bytes : List ℕ) (next : Keys → Plan) → AreAll P next → P (keyset_in from form bytes next)
 keyset_each P c from formats.Json bytes next all = c.allocated _ (with_json_each P c from (begins_of bytes) (is_wrapped_json bytes) (reads_json bytes) next all)
 keyset_each P c from formats.Binary bytes next all = c.allocated _ (with_keyset_each P c from (begins_of bytes) (is_wrapped_binary bytes) (reads_binary bytes) next all)
 
-pub within_each : (P : Plan → Type 0) → IsClosed P → (b : Bool) (next : Plan) → P next → P (if b then next else ends status.KeysetTooLong tt)
+pub within_each : (P : Plan → Type 0) → IsClosed P → (b : Bool) (next : Plan) → P next → P (if b then next else ends status.KeysetOutgrown tt)
 within_each P c true next is = is
 within_each P c false next is = c.ended _ _
 
@@ -102,9 +103,9 @@ pub made_each : (P : Plan → Type 0) → IsClosed P → {A : Type 0} (given : R
 made_each P c (Ok value) next all = all value
 made_each P c (Err fault) next all = c.ended _ _
 
-pub fit_each : (P : Plan → Type 0) → IsClosed P → (found : Option (ℕ × Unfit)) (next : Plan) → P next → P (unless_unfit found next)
-fit_each P c None next all = all
-fit_each P c (Some found) next all = c.ended _ _
+pub fit_each : (P : Plan → Type 0) → IsClosed P → (name : ℕ → UnfitKey) (found : Option (ℕ × Unfit)) (next : Plan) → P next → P (unless_unfit name found next)
+fit_each P c name None next all = all
+fit_each P c name (Some found) next all = c.ended _ _
 
 pub opened_each : (P : Plan → Type 0) → IsClosed P → (what : Unopened) (sealer : Sealer) (found : Option (List ℕ)) (next : List ℕ → Plan) → AreAll P next → P (with_opened what sealer found next)
 opened_each P c what sealer None next all = c.ended _ _
@@ -122,7 +123,7 @@ unwrapped_each P c from begins clear sealer (Ok keys) next all = all keys
 unwrapped_each P c from begins clear sealer (Err (unwrapped.OuterWire at)) next all = c.ended _ _
 unwrapped_each P c from begins clear sealer (Err unwrapped.NotJson) next all = c.ended _ _
 unwrapped_each P c from begins clear sealer (Err unwrapped.Member) next all = c.ended _ _
-unwrapped_each P c from begins clear sealer (Err unwrapped.NotOpened) next all = ended_each P c clear status.KeysetInClear (status.OpenFailed unopened.Keyset sealer) tt tt
+unwrapped_each P c from begins clear sealer (Err unwrapped.NotOpened) next all = ended_each P c clear (status.KeysetInClear from) (status.OpenFailed unopened.Keyset sealer) tt tt
 unwrapped_each P c from begins clear sealer (Err (unwrapped.InnerWire at)) next all = c.ended _ _
 unwrapped_each P c from begins clear sealer (Err (unwrapped.Fault fault)) next all = c.ended _ _
 
@@ -141,7 +142,7 @@ keyset_under_each P o from table None form bytes next all = keyset_each P o.clos
 keyset_under_each P o from table (Some master) form bytes next all = o.closed.allocated _ (unwrapped_each P o.closed from (begins_of bytes) (is_keyset form bytes) (keyset_sealer form master bytes) (unwrap_of master table bytes (is_json form)) next all)
 
 master_each : (P : Plan → Type 0) → IsOpen P → (from : Origin) (table : Table) (master : Master) (next : Option Keys → Plan) → AreAll P next → P (opens_master from table master next)
-master_each P o from table master next all = o.loaded from keyset_limit master.file _ (λ bytes. keyset_each P o.closed from master.form bytes _ (λ keys. o.closed.allocated _ (fit_each P o.closed (unfit keys Aead table) _ (all (Some keys)))))
+master_each P o from table master next all = o.loaded from keyset_limit master.file _ (λ bytes. keyset_each P o.closed from master.form bytes _ (λ keys. o.closed.allocated _ (fit_each P o.closed _ (unfit keys Aead table) _ (all (Some keys)))))
 
 pub lock_each : (P : Plan → Type 0) → IsOpen P → (table : Table) (lock : Lock) (next : Option Keys → Plan) → AreAll P next → P (opens_lock table lock next)
 lock_each P o table None next all = all None

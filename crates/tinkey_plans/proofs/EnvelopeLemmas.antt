@@ -52,6 +52,8 @@ use Rattle.tinkey_plans.specs.declared.sealer.Sealer.{Sealer}
 use Rattle.tinkey_plans.specs.declared.sealer.Unopened.{Unopened}
 use Rattle.tinkey_plans.specs.declared.sealer.Unopened.TheVariants as unopened
 use Rattle.tinkey_plans.specs.Wrapping.{is_json, is_keyset, keyset_sealer, unwraps, with_unwrapped, wrapped_limit}
+use Rattle.tinkey_plans.specs.UnfitKeys.{unfit_key}
+use Rattle.tinkey_plans.specs.declared.unfit.UnfitKey.{UnfitKey}
 
 -- a template that is found stands in the table
 found_contains : {A : Type 0} (p : A → Bool) (xs : List A) (x : A) → find p xs ≡ Some x → Contains xs x
@@ -173,9 +175,9 @@ clear_input limit next clear old s new (read_starved is only stood upto) d = sub
 clear_scheme : (found : Option Scheme) (scheme : Scheme) (next : Scheme → Plan) → found ≡ Some scheme → Clears (next scheme) → Clears (with_scheme found next)
 clear_scheme found scheme next is clear old s new run d = clear old s new (subst (λ o. Ends (with_scheme o next) old s new) is run) d
 
-clear_unfit : (u : Option (ℕ × Unfit)) (next : Plan) → Clears next → Clears (unless_unfit u next)
-clear_unfit None next clear = clear
-clear_unfit (Some found) next clear = clear_end (status.Refused (cannot_serve found.0 found.1)) tt (λ d. d)
+clear_unfit : (name : ℕ → UnfitKey) (u : Option (ℕ × Unfit)) (next : Plan) → Clears next → Clears (unless_unfit name u next)
+clear_unfit name None next clear = clear
+clear_unfit name (Some found) next clear = clear_end (status.Unfit (cannot_serve found.0 found.1) (name found.0)) tt (λ d. d)
 
 clear_either : (b : Bool) (s t : Status) (a : IsStated s) (other : IsStated t) → (IsDekStatus s → ⊥) → (IsDekStatus t → ⊥) → Clears (if b then ends s a else ends t other)
 clear_either true s t a other first second = clear_end s a first
@@ -183,13 +185,13 @@ clear_either false s t a other first second = clear_end t other second
 
 clear_binary : (from : Origin) (begins : Begins) (locked : Bool → Bool) (r : Result Keys Refusal) (next : Keys → Plan) → ((keys : Keys) → Clears (next keys)) → Clears (with_keyset from begins locked r next)
 clear_binary from begins locked (Err (Wire at)) next clear = clear_either (locked false) (status.ProtoLocked at from) (status.BadProto at from begins) tt tt (λ d. d) (λ d. d)
-clear_binary from begins locked (Err (Fault fault)) next clear = clear_either (locked true) (status.KeysetLocked fault from) (status.Keyset fault) tt tt (λ d. d) (λ d. d)
+clear_binary from begins locked (Err (Fault fault)) next clear = clear_either (locked true) (status.KeysetLocked fault from) (status.Keyset fault from) tt tt (λ d. d) (λ d. d)
 clear_binary from begins locked (Ok keys) next clear = clear keys
 
 clear_json : (from : Origin) (begins : Begins) (locked : Bool) (r : Result Keys Json.Refusal) (next : Keys → Plan) → ((keys : Keys) → Clears (next keys)) → Clears (with_json from begins locked r next)
 clear_json from begins locked (Err Json.NotJson) next clear = clear_end (status.NotJson from begins) tt (λ d. d)
 clear_json from begins locked (Err (Json.Shape path)) next clear = clear_end (status.Shape path from) tt (λ d. d)
-clear_json from begins locked (Err (Json.Fault fault)) next clear = clear_either (locked && has_no_key fault) (status.KeysetLocked fault from) (status.Keyset fault) tt tt (λ d. d) (λ d. d)
+clear_json from begins locked (Err (Json.Fault fault)) next clear = clear_either (locked && has_no_key fault) (status.KeysetLocked fault from) (status.Keyset fault from) tt tt (λ d. d) (λ d. d)
 clear_json from begins locked (Ok keys) next clear = clear keys
 
 clear_keyset : (from : Origin) (form : Format) (bytes : List ℕ) (next : Keys → Plan) → ((keys : Keys) → Clears (next keys)) → Clears (keyset_in from form bytes next)
@@ -207,9 +209,9 @@ clear_unwrapped : (from : Origin) (begins : Begins) (clear' : Bool) (sealer : Se
 clear_unwrapped from begins clear' sealer (Err (unwrapped.OuterWire at)) next clear = clear_end (status.BadProto at from begins) tt (λ d. d)
 clear_unwrapped from begins clear' sealer (Err unwrapped.NotJson) next clear = clear_end (status.NotJson from begins) tt (λ d. d)
 clear_unwrapped from begins clear' sealer (Err unwrapped.Member) next clear = clear_end (status.WrappedMember from) tt (λ d. d)
-clear_unwrapped from begins clear' sealer (Err unwrapped.NotOpened) next clear = clear_either clear' status.KeysetInClear (status.OpenFailed unopened.Keyset sealer) tt tt (λ d. d) (λ d. d)
+clear_unwrapped from begins clear' sealer (Err unwrapped.NotOpened) next clear = clear_either clear' (status.KeysetInClear from) (status.OpenFailed unopened.Keyset sealer) tt tt (λ d. d) (λ d. d)
 clear_unwrapped from begins clear' sealer (Err (unwrapped.InnerWire at)) next clear = clear_end (status.BadProto at from begun.Otherwise) tt (λ d. d)
-clear_unwrapped from begins clear' sealer (Err (unwrapped.Fault fault)) next clear = clear_end (status.Keyset fault) tt (λ d. d)
+clear_unwrapped from begins clear' sealer (Err (unwrapped.Fault fault)) next clear = clear_end (status.Keyset fault from) tt (λ d. d)
 clear_unwrapped from begins clear' sealer (Ok keys) next clear = clear keys
 
 clear_under : (master : Option Keys) (name : List ℕ) (form : Format) (next : Keys → Plan) → ((keys : Keys) → Clears (next keys)) → Clears (takes_under origins.Keyset standard_table master (record { file = Some name; form = form }) next)
@@ -218,7 +220,7 @@ clear_under (Some master) name form next clear = clear_load origins.Keyset wrapp
 
 clear_lock : (lock : Lock) (next : Option Keys → Plan) → ((master : Option Keys) → Clears (next master)) → Clears (opens_lock standard_table lock next)
 clear_lock None next clear = clear None
-clear_lock (Some master) next clear = clear_load origins.Master keyset_limit master.file (λ bytes. keyset_in origins.Master master.form bytes (λ keys. handles standard_table Aead keys (λ fit. next (Some keys)))) (λ bytes. clear_keyset origins.Master master.form bytes (λ keys. handles standard_table Aead keys (λ fit. next (Some keys))) (λ keys. clear_memory (unless_unfit (unfit keys Aead standard_table) (next (Some keys))) (clear_unfit (unfit keys Aead standard_table) (next (Some keys)) (clear (Some keys)))))
+clear_lock (Some master) next clear = clear_load origins.Master keyset_limit master.file (λ bytes. keyset_in origins.Master master.form bytes (λ keys. handles origins.Master standard_table Aead keys (λ fit. next (Some keys)))) (λ bytes. clear_keyset origins.Master master.form bytes (λ keys. handles origins.Master standard_table Aead keys (λ fit. next (Some keys))) (λ keys. clear_memory (unless_unfit (unfit_key origins.Master keys) (unfit keys Aead standard_table) (next (Some keys))) (clear_unfit _ (unfit keys Aead standard_table) (next (Some keys)) (clear (Some keys)))))
 
 clear_locked : (lock : Lock) (name : List ℕ) (form : Format) (next : Keys → Plan) → ((keys : Keys) → Clears (next keys)) → Clears (loads_locked standard_table lock name form next)
 clear_locked lock name form next clear = clear_lock lock _ (λ master. clear_under master name form next clear)
@@ -240,7 +242,7 @@ clear_envelope served valid lock name form template work out =
     clear_aead (primitive_of_type (type_made row)) _ (λ aead.
     let scheme = served row aead in
     clear_locked lock name form _ (λ keys.
-    clear_memory _ (clear_unfit (unfit keys Aead standard_table) _
+    clear_memory _ (clear_unfit _ (unfit keys Aead standard_table) _
     (clear_scheme (scheme_at standard_table Aead (url_made row)) scheme.0 _ scheme.1
     (clear_input (envelope_limit work) _ (λ input.
     clear_work valid keys scheme.0 row work out input (record { known = row_known template row named; aead = aead }) scheme.1)))))))

@@ -40,6 +40,7 @@ use Rattle.tinkey_session.specs.Talking.{Stop, goes, wants, passes, long_line, m
 use Rattle.tinkey_plans.specs.Commands.{command_plan}
 use Rattle.tinkey_words.specs.Words.{Asked, self_test, KeysetFile, primitive_for, create_keyset, edit_keyset, list_keyset, key_of, convert_keyset, list_key_templates, use_keyset, use_envelope, seal_stream, open_stream, reseal_stream, open_range, session, help, version}
 use Rattle.tinkey_plans.proofs.EachLemmas.{AreAll, IsClosed, IsOpen, dek_each, envelope_each, scheme_each, range_each, edit_each, fit_each, lines_each, loaded_each, lock_each, locked_each, made_each, new_lock_each, row_each, under_each, work_each, written_under_each}
+use Rattle.tinkey_plans.specs.declared.unfit.UnfitKey.{UnfitKey}
 
 -- the refusals of its steps aren't Done
 abbrev IsProper : Plan → Type 0
@@ -183,10 +184,10 @@ counts_proper (Ok n) lines = tt
 counts_proper (Err fault) lines = tt
 
 -- the keys of a keyset for streams
-stream_fit_proper : (found : Option (ℕ × streams.StreamUnfit)) (next : Plan) → IsProper next → IsProper (streaming.unless_unfit found next)
-stream_fit_proper None next proper = proper
-stream_fit_proper (Some (i, streams.not_stream)) next proper = tt
-stream_fit_proper (Some (i, streams.bad_key rule)) next proper = tt
+stream_fit_proper : (name : ℕ → UnfitKey) (found : Option (ℕ × streams.StreamUnfit)) (next : Plan) → IsProper next → IsProper (streaming.unless_unfit name found next)
+stream_fit_proper name None next proper = proper
+stream_fit_proper name (Some (i, streams.not_stream)) next proper = tt
+stream_fit_proper name (Some (i, streams.bad_key rule)) next proper = tt
 
 stream_keys_proper : (found : Option KeysForStreams) (next : KeysForStreams → Plan) → AreAll IsProper next → IsProper (with_keys found next)
 stream_keys_proper None next proper = tt
@@ -221,7 +222,7 @@ free_proper (Some name) next proper = (λ e. cc, proper)
 tells_proper : (kind : SealedForm) (ad : List ℕ) (keys : Keys) → IsProper (tells_keys kind ad keys writes)
 tells_proper sealed.Text ad keys = λ front. lines_each IsProper closed (key_of_answer keys front) writes (λ lines. tt)
 tells_proper sealed.Envelope ad keys = λ front. lines_each IsProper closed (key_of_answer keys (drop 4 front)) writes (λ lines. tt)
-tells_proper sealed.Stream ad keys = stream_fit_proper (streams.stream_unfit keys) _ (stream_keys_proper (keys_for keys) (tells_front ad keys writes) (λ those front. lines_each IsProper closed (stream_record_line keys ad front) writes (λ lines. tt)))
+tells_proper sealed.Stream ad keys = stream_fit_proper _ (streams.stream_unfit keys) _ (stream_keys_proper (keys_for keys) (tells_front ad keys writes) (λ those front. lines_each IsProper closed (stream_record_line keys ad front) writes (λ lines. tt)))
 
 commands_are_proper : (table : Table) (asked : Asked) → IsProper (command_plan table asked)
 commands_are_proper table (create_keyset lock name out) = (row_each IsProper closed (row_named name) name _ (λ row. lock_each IsProper open' table lock _ (λ master. draw_proper (first row) _ (out_proper table master out))))
@@ -230,12 +231,12 @@ commands_are_proper table (list_keyset lock in') = (locked_each IsProper open' o
 commands_are_proper table (key_of lock name form kind ad) = loaded_each IsProper open' table lock name form _ (tells_proper kind ad)
 commands_are_proper table (convert_keyset lock new in' out) = (lock_each IsProper open' table lock _ (λ taken. new_lock_each IsProper open' table new taken _ (λ put. under_each IsProper open' origins.In table taken in' _ (out_proper table put out))))
 commands_are_proper table (list_key_templates primitive) = tt
-commands_are_proper table (use_keyset lock name form work out) = (loaded_each IsProper open' table lock name form _ (λ keys. fit_each IsProper closed (unfit keys (primitive_for work) table) _ (λ e. cc, λ input. work_each IsProper closed table keys work input (λ plain ad next all. all) (puts_output out) (shown_proper out.hex out.file))))
-commands_are_proper table (use_envelope lock name form template work out) = (dek_each IsProper closed template _ (λ row. loaded_each IsProper open' table lock name form _ (λ keys. fit_each IsProper closed (unfit keys Aead table) _ (scheme_each IsProper closed (scheme_at table Aead (url_made row)) _ (λ scheme. (λ e. cc, λ input. envelope_each IsProper closed table keys scheme row work input (λ ad next all. all) (λ plain ad next all. all) (puts out) (put_proper out)))))))
-commands_are_proper table (seal_stream lock name form ad out) = loaded_each IsProper open' table lock name form _ (λ keys. stream_fit_proper (streams.stream_unfit keys) _ (stream_keys_proper (keys_for keys) _ (seals_proper ad out)))
-commands_are_proper table (open_stream lock name form ad out) = loaded_each IsProper open' table lock name form _ (λ keys. stream_fit_proper (streams.stream_unfit keys) _ (stream_keys_proper (keys_for keys) _ (opens_proper ad out)))
-commands_are_proper table (reseal_stream lock name form ad out) = loaded_each IsProper open' table lock name form _ (λ keys. stream_fit_proper (streams.stream_unfit keys) _ (stream_keys_proper (keys_for keys) _ (reseals_proper ad out)))
-commands_are_proper table (open_range lock name form ad range out) = (loaded_each IsProper open' table lock name form _ (λ keys. stream_fit_proper (streams.stream_unfit keys) _ (stream_keys_proper (keys_for keys) _ (λ k. (λ e. cc, λ opened. range_each IsProper closed opened _ (put_proper out))))))
+commands_are_proper table (use_keyset lock name form work out) = (loaded_each IsProper open' table lock name form _ (λ keys. fit_each IsProper closed _ (unfit keys (primitive_for work) table) _ (λ e. cc, λ input. work_each IsProper closed table keys work input (λ plain ad next all. all) (puts_output out) (shown_proper out.hex out.file))))
+commands_are_proper table (use_envelope lock name form template work out) = (dek_each IsProper closed template _ (λ row. loaded_each IsProper open' table lock name form _ (λ keys. fit_each IsProper closed _ (unfit keys Aead table) _ (scheme_each IsProper closed (scheme_at table Aead (url_made row)) _ (λ scheme. (λ e. cc, λ input. envelope_each IsProper closed table keys scheme row work input (λ ad next all. all) (λ plain ad next all. all) (puts out) (put_proper out)))))))
+commands_are_proper table (seal_stream lock name form ad out) = loaded_each IsProper open' table lock name form _ (λ keys. stream_fit_proper _ (streams.stream_unfit keys) _ (stream_keys_proper (keys_for keys) _ (seals_proper ad out)))
+commands_are_proper table (open_stream lock name form ad out) = loaded_each IsProper open' table lock name form _ (λ keys. stream_fit_proper _ (streams.stream_unfit keys) _ (stream_keys_proper (keys_for keys) _ (opens_proper ad out)))
+commands_are_proper table (reseal_stream lock name form ad out) = loaded_each IsProper open' table lock name form _ (λ keys. stream_fit_proper _ (streams.stream_unfit keys) _ (stream_keys_proper (keys_for keys) _ (reseals_proper ad out)))
+commands_are_proper table (open_range lock name form ad range out) = (loaded_each IsProper open' table lock name form _ (λ keys. stream_fit_proper _ (streams.stream_unfit keys) _ (stream_keys_proper (keys_for keys) _ (λ k. (λ e. cc, λ opened. range_each IsProper closed opened _ (put_proper out))))))
 commands_are_proper table (self_test seed lines) = (counts_proper (trial.self_test table seed lines) lines)
 commands_are_proper table (session lock name form out) = lock_each IsProper open' table lock _ (λ master. under_each IsProper open' origins.Keyset table master (record { file = Some name; form = form }) (holds_session table master out) (λ keys. free_proper out.file _ (λ last. saves_proper table master out.file out.form last)))
 commands_are_proper table (help topic) = tt

@@ -40,6 +40,8 @@ use Rattle.tinkey_plans.specs.Wrapping.{ends_unopened, is_json, is_keyset, keyse
 use Rattle.tinkey_plans.proofs.GivenLemmas.{none_given}
 use Rattle.tinkey_words.specs.declared.words.misuse.Misuse.{Misuse}
 use Rattle.tinkey_words.specs.Words.{Asked, AskedRange, Lock, Master}
+use Rattle.tinkey_plans.specs.declared.unfit.UnfitKey.{UnfitKey}
+use Rattle.tinkey_plans.specs.UnfitKeys.{unfit_key}
 
 -- ---- the output
 
@@ -93,7 +95,7 @@ record WentOn {A : Type 0} (Is : A → Type 0) (next : A → Plan) (old : World)
   is : Is value
   run : Ends (next value) old s new
 
-faulty_ends : (from : Origin) (b : Bool) (fault : KeysetRefusal) (old : World) (s : Status) (new : World) → Ends (if b then ends (status.KeysetLocked fault from) tt else ends (status.Keyset fault) tt) old s new → old ≡ new
+faulty_ends : (from : Origin) (b : Bool) (fault : KeysetRefusal) (old : World) (s : Status) (new : World) → Ends (if b then ends (status.KeysetLocked fault from) tt else ends (status.Keyset fault from) tt) old s new → old ≡ new
 faulty_ends from true fault old s new (is, same) = same
 faulty_ends from false fault old s new (is, same) = same
 
@@ -119,16 +121,16 @@ keyset_ends from formats.Binary bytes next old s new (inl run) = binary_ends fro
 keyset_ends from formats.Binary bytes next old s new (inr (is, same)) = inl same
 
 -- under a master
-unopened_ends : (clear : Bool) (sealer : Sealer) (old : World) (s : Status) (new : World) → Ends (ends_unopened clear sealer) old s new → old ≡ new
-unopened_ends true sealer old s new (is, same) = same
-unopened_ends false sealer old s new (is, same) = same
+unopened_ends : (from : Origin) (clear : Bool) (sealer : Sealer) (old : World) (s : Status) (new : World) → Ends (ends_unopened from clear sealer) old s new → old ≡ new
+unopened_ends from true sealer old s new (is, same) = same
+unopened_ends from false sealer old s new (is, same) = same
 
 given_ends : (from : Origin) (begins : Begins) (clear : Bool) (sealer : Sealer) (table : Table) (master : Keys) (form : Format) (bytes : List ℕ) (r : Result Keys unwrapping.Refusal) (next : Keys → Plan) (old : World) (s : Status) (new : World) → unwrap_of master table bytes (is_json form) ≡ r → Ends (with_unwrapped from begins clear sealer r next) old s new
     → (old ≡ new) ⊎ WentOn (λ keys. unwrap_of master table bytes (is_json form) ≡ Ok keys) next old s new
 given_ends from begins clear sealer table master form bytes (Err (unwrapping.OuterWire at)) next old s new r (is, same) = inl same
 given_ends from begins clear sealer table master form bytes (Err unwrapping.NotJson) next old s new r (is, same) = inl same
 given_ends from begins clear sealer table master form bytes (Err unwrapping.Member) next old s new r (is, same) = inl same
-given_ends from begins clear sealer table master form bytes (Err unwrapping.NotOpened) next old s new r run = inl (unopened_ends clear sealer old s new run)
+given_ends from begins clear sealer table master form bytes (Err unwrapping.NotOpened) next old s new r run = inl (unopened_ends _ clear sealer old s new run)
 given_ends from begins clear sealer table master form bytes (Err (unwrapping.InnerWire at)) next old s new r (is, same) = inl same
 given_ends from begins clear sealer table master form bytes (Err (unwrapping.Fault fault)) next old s new r (is, same) = inl same
 given_ends from begins clear sealer table master form bytes (Ok keys) next old s new r run = inr (record { value = keys; is = r; run = run })
@@ -139,20 +141,20 @@ under_ends from table (Some master) form bytes next old s new (inl run) = given_
 under_ends from table (Some master) form bytes next old s new (inr (is, same)) = inl same
 
 -- a master that can serve
-serves_ends : (found : Option (ℕ × Unfit)) (next : Plan) (old : World) (s : Status) (new : World) → Ends (handling.unless_unfit found next) old s new → (old ≡ new) ⊎ Ends next old s new
-serves_ends None next old s new run = inr run
-serves_ends (Some found) next old s new (is, same) = inl same
+serves_ends : (name : ℕ → UnfitKey) (found : Option (ℕ × Unfit)) (next : Plan) (old : World) (s : Status) (new : World) → Ends (handling.unless_unfit name found next) old s new → (old ≡ new) ⊎ Ends next old s new
+serves_ends name None next old s new run = inr run
+serves_ends name (Some found) next old s new (is, same) = inl same
 
-handles_ends : (table : Table) (master : Keys) (next : Unit {0} → Plan) (old : World) (s : Status) (new : World) → Ends (handles table Aead master next) old s new → (old ≡ new) ⊎ Ends (next tt) old s new
-handles_ends table master next old s new (inl run) = serves_ends (unfit master Aead table) (next tt) old s new run
-handles_ends table master next old s new (inr (is, same)) = inl same
+handles_ends : (from : Origin) (table : Table) (master : Keys) (next : Unit {0} → Plan) (old : World) (s : Status) (new : World) → Ends (handles from table Aead master next) old s new → (old ≡ new) ⊎ Ends (next tt) old s new
+handles_ends from table master next old s new (inl run) = serves_ends _ (unfit master Aead table) (next tt) old s new run
+handles_ends from table master next old s new (inr (is, same)) = inl same
 
 -- ---- the keys
 
-fit_ends : (found : Option (ℕ × StreamUnfit)) (next : Plan) (old : World) (s : Status) (new : World) → Ends (unless_unfit found next) old s new → (old ≡ new) ⊎ Ends next old s new
-fit_ends None next old s new run = inr run
-fit_ends (Some (i, not_stream)) next old s new (is, same) = inl same
-fit_ends (Some (i, bad_key rule)) next old s new (is, same) = inl same
+fit_ends : (name : ℕ → UnfitKey) (found : Option (ℕ × StreamUnfit)) (next : Plan) (old : World) (s : Status) (new : World) → Ends (unless_unfit name found next) old s new → (old ≡ new) ⊎ Ends next old s new
+fit_ends name None next old s new run = inr run
+fit_ends name (Some (i, not_stream)) next old s new (is, same) = inl same
+fit_ends name (Some (i, bad_key rule)) next old s new (is, same) = inl same
 
 keys_end : (found : Option KeysForStreams) (then' : KeysForStreams → Plan) (old : World) (s : Status) (new : World) → Ends (with_keys found then') old s new → (old ≡ new) ⊎ WentOn (λ keys. found ≡ Some keys) then' old s new
 keys_end None then' old s new (is, same) = inl same
@@ -160,11 +162,11 @@ keys_end (Some keys) then' old s new run = inr (record { value = keys; is = refl
 
 -- the plan behind a keyset
 abbrev loads_behind : (KeysForStreams → Plan) → Keys → Plan
-loads_behind then' keyset = allocates (unless_unfit (stream_unfit keyset) (with_keys (keys_for keyset) then'))
+loads_behind then' keyset = allocates (unless_unfit (unfit_key origins.Keyset keyset) (stream_unfit keyset) (with_keys (keys_for keyset) then'))
 
 streams_end : (keyset : Keys) (then' : KeysForStreams → Plan) (old : World) (s : Status) (new : World) → Ends (loads_behind then' keyset) old s new → (old ≡ new) ⊎ WentOn (λ keys. keys_for keyset ≡ Some keys) then' old s new
 streams_end keyset then' old s new (inr (is, same)) = inl same
-streams_end keyset then' old s new (inl run) = by (fit_ends (stream_unfit keyset) (with_keys (keys_for keyset) then') old s new run)
+streams_end keyset then' old s new (inl run) = by (fit_ends _ (stream_unfit keyset) (with_keys (keys_for keyset) then') old s new run)
   where
     by : (old ≡ new) ⊎ Ends (with_keys (keys_for keyset) then') old s new → (old ≡ new) ⊎ WentOn (λ keys. keys_for keyset ≡ Some keys) then' old s new
     by (inl same) = inl same
@@ -263,7 +265,7 @@ locked_gave table lock name form ad range out old s new (loaded bytes store kept
     taken master = takes_under origins.Keyset table master (record { file = Some name; form = form }) (loads_behind (range_plan ad range out))
 
     opens : Keys → Plan
-    opens master = handles table Aead master (λ fit. taken (Some master))
+    opens master = handles origins.Master table Aead master (λ fit. taken (Some master))
 
     none : mid ≡ new → GaveWithin old.store new.store (limit_behind (Some lock) + 1)
     none same = let e : store.given ≡ new.store.given = ap (λ (w : World). w.store.given) same in omega (arith, given, within, e)
@@ -287,7 +289,7 @@ locked_gave table lock name form ad range out old s new (loaded bytes store kept
 
     by : (mid ≡ new) ⊎ WentOn (λ keys. IsKeysetIn lock.form bytes keys) opens mid s new → GaveWithin old.store new.store (limit_behind (Some lock) + 1) ⊎ RangeGave table (Some lock) name form ad range old.store s new.store
     by (inl same) = inl (none same)
-    by (inr went) = by_fit went.value went.is (handles_ends table went.value (λ fit. taken (Some went.value)) mid s new went.run)
+    by (inr went) = by_fit went.value went.is (handles_ends _ table went.value (λ fit. taken (Some went.value)) mid s new went.run)
 
 range_gave : (table : Table) (lock : Lock) (name : List ℕ) (form : Format) (ad : List ℕ) (range : AskedRange) (out : Option (List ℕ)) (old : World) (s : Status) (new : World) → Ends (range_output table lock name form ad range (puts out)) old s new
     → GaveWithin old.store new.store (limit_behind lock + 1) ⊎ RangeGave table lock name form ad range old.store s new.store

@@ -24,6 +24,8 @@ use Rattle.tinkey_plans.specs.Plan.{Told, answer, pump_answer, stream_status, wr
 use Rattle.tinkey_plans.specs.Streaming.{keys_for, opens_stream, unless_unfit, with_keys}
 use Rattle.tinkey_plans.specs.declared.status.Status.TheVariants as status
 use Rattle.tinkey_session.proofs.Options.{clash}
+use Rattle.tinkey_plans.specs.UnfitKeys.{unfit_key}
+use Rattle.tinkey_plans.specs.declared.origin.Origin.TheVariants as origins
 
 -- ---- the first bytes tell what the whole does
 
@@ -246,8 +248,8 @@ keys_given keys those None is = clash is
 keys_given keys those (Some key) is = ap (λ (k : KeysForStreams). k.keys) (sym (same_Some _ _ is))
 
 refuse_alike : (keys : Keys) (ad : List ℕ) (told : Told) (unfit : Option (ℕ × StreamUnfit)) (found : Option KeysForStreams) → keys_for keys ≡ found
-    → ((answer (unless_unfit unfit (with_keys found (tells_front ad keys writes))) told).status ≡ status.NoKeyOf)
-    ↔ ((answer (unless_unfit unfit (with_keys found (λ those. opens_stream those ad None))) told).status ≡ status.StreamFailed 0)
+    → ((answer (unless_unfit (unfit_key origins.Keyset keys) unfit (with_keys found (tells_front ad keys writes))) told).status ≡ status.NoKeyOf)
+    ↔ ((answer (unless_unfit (unfit_key origins.Keyset keys) unfit (with_keys found (λ those. opens_stream those ad None))) told).status ≡ status.StreamFailed 0)
 refuse_alike keys ad told (Some (i, not_stream)) found is = (λ e. absurd (cc), λ e. absurd (cc))
 refuse_alike keys ad told (Some (i, bad_key rule)) found is = (λ e. absurd (cc), λ e. absurd (cc))
 refuse_alike keys ad told None None is = (λ e. absurd (cc), λ e. absurd (cc))

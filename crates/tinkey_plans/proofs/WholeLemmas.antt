@@ -27,6 +27,7 @@ use Rattle.tinkey_plans.specs.Streaming as streaming
 use Rattle.tinkey_selftest.specs.declared.counts.Counts.{Counts}
 use Rattle.tinkey_plans.specs.SelfTesting.{tells_counts}
 use Rattle.tinkey_words.specs.Words.{self_test, KeysetFile, primitive_for, create_keyset, edit_keyset, list_keyset, key_of, convert_keyset, list_key_templates, use_keyset, use_envelope, seal_stream, open_stream, reseal_stream, open_range, session, help, version}
+use Rattle.tinkey_plans.specs.declared.unfit.UnfitKey.{UnfitKey}
 
 closed : IsClosed IsWhole
 closed = record { ended = λ s stated. tt; allocated = λ next all. all }
@@ -52,10 +53,10 @@ counts_whole : (r : Result Counts EditRefusal) (lines : ℕ) → IsWhole (tells_
 counts_whole (Ok n) lines = tt
 counts_whole (Err fault) lines = tt
 
-stream_fit_whole : (found : Option (ℕ × streams.StreamUnfit)) (next : Plan) → IsWhole next → IsWhole (streaming.unless_unfit found next)
-stream_fit_whole None next whole = whole
-stream_fit_whole (Some (i, streams.not_stream)) next whole = tt
-stream_fit_whole (Some (i, streams.bad_key rule)) next whole = tt
+stream_fit_whole : (name : ℕ → UnfitKey) (found : Option (ℕ × streams.StreamUnfit)) (next : Plan) → IsWhole next → IsWhole (streaming.unless_unfit name found next)
+stream_fit_whole name None next whole = whole
+stream_fit_whole name (Some (i, streams.not_stream)) next whole = tt
+stream_fit_whole name (Some (i, streams.bad_key rule)) next whole = tt
 
 stream_keys_whole : (found : Option KeysForStreams) (next : KeysForStreams → Plan) → AreAll IsWhole next → IsWhole (streaming.with_keys found next)
 stream_keys_whole None next whole = tt
@@ -64,7 +65,7 @@ stream_keys_whole (Some keys) next whole = whole keys
 tells_whole : (kind : SealedForm) (ad : List ℕ) (keys : Keys) → IsWhole (tells_keys kind ad keys writes)
 tells_whole sealed.Text ad keys = λ front. lines_each IsWhole closed (key_of_answer keys front) writes (λ lines. tt)
 tells_whole sealed.Envelope ad keys = λ front. lines_each IsWhole closed (key_of_answer keys (drop 4 front)) writes (λ lines. tt)
-tells_whole sealed.Stream ad keys = stream_fit_whole (streams.stream_unfit keys) _ (stream_keys_whole (streaming.keys_for keys) (tells_front ad keys writes) (λ those front. lines_each IsWhole closed (stream_record_line keys ad front) writes (λ lines. tt)))
+tells_whole sealed.Stream ad keys = stream_fit_whole _ (streams.stream_unfit keys) _ (stream_keys_whole (streaming.keys_for keys) (tells_front ad keys writes) (λ those front. lines_each IsWhole closed (stream_record_line keys ad front) writes (λ lines. tt)))
 
 pub commands_are_whole : CommandsAreWhole
 commands_are_whole table (create_keyset lock name out) = inl (row_each IsWhole closed (row_named name) name _ (λ row. lock_each IsWhole open' table lock _ (λ master. draw_whole (first row) _ (out_whole table master out))))
@@ -73,15 +74,15 @@ commands_are_whole table (list_keyset lock in') = inl (locked_each IsWhole open'
 commands_are_whole table (key_of lock name form kind ad) = inl (loaded_each IsWhole open' table lock name form _ (tells_whole kind ad))
 commands_are_whole table (convert_keyset lock new in' out) = inl (lock_each IsWhole open' table lock _ (λ taken. new_lock_each IsWhole open' table new taken _ (λ put. under_each IsWhole open' origins.In table taken in' _ (out_whole table put out))))
 commands_are_whole table (list_key_templates primitive) = inl tt
-commands_are_whole table (use_keyset lock name form work out) = inl (loaded_each IsWhole open' table lock name form _ (λ keys. fit_each IsWhole closed (unfit keys (primitive_for work) table) _ (λ input. work_each IsWhole closed table keys work input (λ plain ad next all. all) (puts_output out) (shown_whole out.hex out.file))))
-commands_are_whole table (use_envelope lock name form template work out) = inl (dek_each IsWhole closed template _ (λ row. loaded_each IsWhole open' table lock name form _ (λ keys. fit_each IsWhole closed (unfit keys Aead table) _ (scheme_each IsWhole closed (scheme_at table Aead (url_made row)) _ (λ scheme. (λ input. envelope_each IsWhole closed table keys scheme row work input (λ ad next all. all) (λ plain ad next all. all) (puts out) (put_whole out)))))))
+commands_are_whole table (use_keyset lock name form work out) = inl (loaded_each IsWhole open' table lock name form _ (λ keys. fit_each IsWhole closed _ (unfit keys (primitive_for work) table) _ (λ input. work_each IsWhole closed table keys work input (λ plain ad next all. all) (puts_output out) (shown_whole out.hex out.file))))
+commands_are_whole table (use_envelope lock name form template work out) = inl (dek_each IsWhole closed template _ (λ row. loaded_each IsWhole open' table lock name form _ (λ keys. fit_each IsWhole closed _ (unfit keys Aead table) _ (scheme_each IsWhole closed (scheme_at table Aead (url_made row)) _ (λ scheme. (λ input. envelope_each IsWhole closed table keys scheme row work input (λ ad next all. all) (λ plain ad next all. all) (puts out) (put_whole out)))))))
 commands_are_whole table (seal_stream lock name form ad None) = inr (inl tt)
-commands_are_whole table (seal_stream lock name form ad (Some out)) = inl (loaded_each IsWhole open' table lock name form _ (λ keys. stream_fit_whole (streams.stream_unfit keys) _ (stream_keys_whole (streaming.keys_for keys) _ (λ k made. made_each IsWhole closed made _ (λ random output. tt)))))
+commands_are_whole table (seal_stream lock name form ad (Some out)) = inl (loaded_each IsWhole open' table lock name form _ (λ keys. stream_fit_whole _ (streams.stream_unfit keys) _ (stream_keys_whole (streaming.keys_for keys) _ (λ k made. made_each IsWhole closed made _ (λ random output. tt)))))
 commands_are_whole table (open_stream lock name form ad None) = inr (inl tt)
-commands_are_whole table (open_stream lock name form ad (Some out)) = inl (loaded_each IsWhole open' table lock name form _ (λ keys. stream_fit_whole (streams.stream_unfit keys) _ (stream_keys_whole (streaming.keys_for keys) _ (λ k output. tt))))
+commands_are_whole table (open_stream lock name form ad (Some out)) = inl (loaded_each IsWhole open' table lock name form _ (λ keys. stream_fit_whole _ (streams.stream_unfit keys) _ (stream_keys_whole (streaming.keys_for keys) _ (λ k output. tt))))
 commands_are_whole table (reseal_stream lock name form ad None) = inr (inl tt)
-commands_are_whole table (reseal_stream lock name form ad (Some out)) = inl (loaded_each IsWhole open' table lock name form _ (λ keys. stream_fit_whole (streams.stream_unfit keys) _ (stream_keys_whole (streaming.keys_for keys) _ (λ k made. made_each IsWhole closed made _ (λ random output. tt)))))
-commands_are_whole table (open_range lock name form ad range out) = inl (loaded_each IsWhole open' table lock name form _ (λ keys. stream_fit_whole (streams.stream_unfit keys) _ (stream_keys_whole (streaming.keys_for keys) _ (λ k opened. range_each IsWhole closed opened _ (put_whole out)))))
+commands_are_whole table (reseal_stream lock name form ad (Some out)) = inl (loaded_each IsWhole open' table lock name form _ (λ keys. stream_fit_whole _ (streams.stream_unfit keys) _ (stream_keys_whole (streaming.keys_for keys) _ (λ k made. made_each IsWhole closed made _ (λ random output. tt)))))
+commands_are_whole table (open_range lock name form ad range out) = inl (loaded_each IsWhole open' table lock name form _ (λ keys. stream_fit_whole _ (streams.stream_unfit keys) _ (stream_keys_whole (streaming.keys_for keys) _ (λ k opened. range_each IsWhole closed opened _ (put_whole out)))))
 commands_are_whole table (self_test seed lines) = inl (counts_whole (trial.self_test table seed lines) lines)
 commands_are_whole table (session lock name form out) = inr (inr tt)
 commands_are_whole table (help topic) = inl tt

@@ -13,6 +13,7 @@ use Rattle.managers.specs.Table.{Table, scheme_at}
 use Rattle.seal_wrap.specs.Enveloped.{Enveloped, Parts, envelope, envelope_of, open_envelope_of, parts_in}
 use Rattle.seal_wrap.specs.Enveloping.{url_made}
 use Rattle.tinkey_cmds.specs.Draws.{Draw, Drawn}
+use Rattle.tinkey_plans.specs.declared.origin.Origin.TheVariants as origins
 use Rattle.tinkey_plans.specs.declared.status.Status.TheVariants as status
 use Rattle.tinkey_plans.specs.Plan.{Plan, ends, allocates, draws, envelopings}
 use Rattle.tinkey_plans.specs.Handles.{handles}
@@ -96,7 +97,7 @@ abbrev pub envelope_output : Table → Lock → List ℕ → Format → (templat
 envelope_output table lock name form template work next =
     finds_dek template (λ row.
     loads_locked table lock name form (λ keys.
-    handles table Aead keys (λ fit.
+    handles origins.Keyset table Aead keys (λ fit.
     finds_scheme table row (λ scheme.
     reads_input (envelope_limit work) (λ input.
     envelopes table keys scheme row work input next)))))

@@ -8,6 +8,7 @@ pub mod KeyOf
 pub mod Laws
 pub mod Locks
 pub mod Naming
+pub mod Mentions
 pub mod Misfits
 pub mod Origins
 pub mod Plan
@@ -21,6 +22,7 @@ pub mod Status
 pub mod Steps
 pub mod FileRange
 pub mod Streaming
+pub mod UnfitKeys
 pub mod Using
 pub mod Wrapping
 pub mod Going

@@ -62,7 +62,3 @@ misfit_text (misfits.Without command name other) =
     told_of (option_row name).word (codes " stands without ") (option_row other).word command
 misfit_text (misfits.NoStream command name) =
     told_of (option_row name).word (codes " stands without ") (codes "--as stream") command
-
--- the line that tells it
-unfoldable pub misfit_line : Misfit → List ℕ
-misfit_line why = codes "tinkey: " ++ misfit_text why ++ codes "\n"

@@ -4,8 +4,9 @@
 --   begins_of      how bytes begin
 --   file_text      what is read: the file that an option gives, or standard input
 --   format_text    the option that gives its form
---   locked_text    what serves for an encrypted one
---   missing_line, not_json_line, not_proto_line, file_line, locked_line   the second lines that tell it
+--   served_text    what serves for an encrypted one
+--   missing_text, it_is_text, long_text, locked_text, clear_text, not_json_text, not_proto_text, faulty_text   what the
+--                  second lines tell of it
 use Rattle.std.specs.Prelude.{ℕ, Bool, false, List, ◌++◌, ◌||◌, drop, nat_eq, slice_get, Option, Some, None, if◌then◌else◌, codes}
 use Rattle.std.specs.Char.{is_ascii_whitespace}
 use Rattle.std.specs.List.{prefix_len}
@@ -37,7 +38,7 @@ begins_of bytes =
     else if is_brace (first_dark bytes) then begun.AsJson
     else begun.Otherwise
 
--- ---- the second lines
+-- ---- the second lines, without their front
 
 -- what is read
 unfoldable pub file_text : Origin → List ℕ
@@ -58,40 +59,50 @@ format_text origins.In = codes "--in-format"
 format_text origins.StandardInput = codes "--in-format"
 
 -- what an encrypted keyset is, where one in clear is read
-unfoldable pub locked_text : Origin → List ℕ
-locked_text origins.Keyset = codes "which --master FILE opens"
-locked_text origins.Master = codes "and a master has to be in clear"
-locked_text origins.NewMaster = codes "and a master has to be in clear"
-locked_text origins.OnlyMaster = codes "and a master has to be in clear"
-locked_text origins.In = codes "which --master FILE opens"
-locked_text origins.StandardInput = codes "which --master FILE opens"
+unfoldable pub served_text : Origin → List ℕ
+served_text origins.Keyset = codes "which --master FILE opens"
+served_text origins.Master = codes "and a master has to be in clear"
+served_text origins.NewMaster = codes "and a master has to be in clear"
+served_text origins.OnlyMaster = codes "and a master has to be in clear"
+served_text origins.In = codes "which --master FILE opens"
+served_text origins.StandardInput = codes "which --master FILE opens"
 
 -- the file isn't there
-abbrev pub missing_line : Origin → List ℕ
-missing_line from = codes "tinkey: " ++ file_text from ++ codes " is not there\n"
+abbrev pub missing_text : Origin → List ℕ
+missing_text from = file_text from ++ codes " is not there"
 
 -- it is the one that is meant
-abbrev pub file_line : Origin → List ℕ
-file_line from = codes "tinkey: it is " ++ file_text from ++ codes "\n"
+abbrev pub it_is_text : Origin → List ℕ
+it_is_text from = codes "it is " ++ file_text from
+
+-- it is longer than any keyset that is read
+abbrev pub long_text : Origin → List ℕ
+long_text from =
+    file_text from ++ codes " is too long: a keyset has at most 1048576 bytes, and an encrypted one 4194304"
 
 -- it is an encrypted keyset
-abbrev pub locked_line : Origin → List ℕ
-locked_line from =
-    codes "tinkey: " ++ file_text from ++ codes " is an encrypted keyset, " ++ locked_text from ++ codes "\n"
+abbrev pub locked_text : Origin → List ℕ
+locked_text from = file_text from ++ codes " is an encrypted keyset, " ++ served_text from
+
+-- it is a keyset in clear
+abbrev pub clear_text : Origin → List ℕ
+clear_text from = file_text from ++ codes " is a keyset in clear: leave --master out"
 
 -- it isn't JSON, and begins so
-abbrev pub not_json_line : Origin → Begins → List ℕ
-not_json_line from begun.AsBinary =
-    codes "tinkey: " ++ file_text from ++ codes " begins as the binary form does: add " ++ format_text from
-    ++ codes " binary\n"
-not_json_line from begun.AsJson =
-    codes "tinkey: " ++ file_text from ++ codes " begins as JSON does, but can't be read to its end\n"
-not_json_line from begun.Otherwise =
-    codes "tinkey: " ++ file_text from ++ codes " doesn't begin with {, as a keyset in JSON does\n"
+abbrev pub not_json_text : Origin → Begins → List ℕ
+not_json_text from begun.AsBinary =
+    file_text from ++ codes " begins as the binary form does: add " ++ format_text from ++ codes " binary"
+not_json_text from begun.AsJson =
+    file_text from ++ codes " begins as JSON does, but can't be read to its end"
+not_json_text from begun.Otherwise =
+    file_text from ++ codes " doesn't begin with {, as a keyset in JSON does"
 
 -- it can't be read in the binary form, and begins so
-abbrev pub not_proto_line : Origin → Begins → List ℕ
-not_proto_line from begun.AsJson =
-    codes "tinkey: " ++ file_text from ++ codes " begins as JSON does: leave " ++ format_text from
-    ++ codes " binary out\n"
-not_proto_line from _ = codes "tinkey: " ++ file_text from ++ codes " is damaged, or isn't a keyset\n"
+abbrev pub not_proto_text : Origin → Begins → List ℕ
+not_proto_text from begun.AsJson =
+    file_text from ++ codes " begins as JSON does: leave " ++ format_text from ++ codes " binary out"
+not_proto_text from _ = file_text from ++ codes " is damaged, or isn't a keyset"
+
+-- its keyset has this fault, of which this is said
+abbrev pub faulty_text : Origin → (says : List ℕ) → List ℕ
+faulty_text from says = codes "in " ++ file_text from ++ codes ": " ++ says

@@ -8,7 +8,7 @@
 --   record_named   the one record among those named that is told
 --   sealer_of      what is told of sealed bytes
 --   envelope_sealer_of, keyset_sealer_of   what is told of an envelope, and of an encrypted keyset
---   sealer_line    the second line that tells it
+--   sealer_text    the second line that tells it, without its front
 use Rattle.std.specs.Prelude.{ℕ, Bool, List, ◌++◌, ◌||◌, length, take, drop, filter, find, nat_lt, Option, Some, None, Result, if◌then◌else◌, codes}
 use Rattle.std.specs.Fmt.{decimal}
 use Rattle.std.specs.Option.{option_or}
@@ -79,7 +79,7 @@ envelope_sealer_of keys bytes = sealer_of keys (drop 4 bytes)
 abbrev pub keyset_sealer_of : (master : Keys) → (encrypted : Result (List ℕ) Refusal) → Sealer
 keyset_sealer_of master encrypted = sealer_of master (encrypted_bytes encrypted)
 
--- ---- the second line
+-- ---- the second line, without its front
 
 -- no key is named
 unfoldable pub none_text : Unopened → List ℕ
@@ -119,6 +119,3 @@ sealer_text what sealers.Raw = none_text what ++ codes ", and no ENABLED RAW key
 sealer_text what (sealers.Enabled id) = under_key id (enabled_text what)
 sealer_text what (sealers.Disabled id) = under_key id (disabled_text what)
 sealer_text what (sealers.Destroyed id) = under_key id (destroyed_text what)
-
-unfoldable pub sealer_line : Unopened → Sealer → List ℕ
-sealer_line what sealer = codes "tinkey: " ++ sealer_text what sealer ++ codes "\n"

@@ -9,11 +9,14 @@ use Rattle.tinkey_cmds.specs.declared.command.EditRefusal.TheVariants as edits
 use Rattle.tinkey_session.specs.declared.reply.LineRefusal.TheVariants as lines
 use Rattle.tinkey_session.specs.declared.reply.Refusal.TheVariants as refused
 use Rattle.tinkey_session.specs.Texts.{line_refusal_text, refusal_text}
-use Rattle.tinkey_plans.specs.Advice.{advice}
+use Rattle.tinkey_plans.specs.Advice.{advice, keyset_advice}
 use Rattle.tinkey_plans.specs.Help.{help_text}
-use Rattle.tinkey_plans.specs.Misfits.{misfit_line}
-use Rattle.tinkey_plans.specs.Origins.{file_line, locked_line, missing_line, not_json_line, not_proto_line}
-use Rattle.tinkey_plans.specs.Sealers.{sealer_line}
+use Rattle.tinkey_plans.specs.Mentions.{left_text, line_with}
+use Rattle.tinkey_plans.specs.Misfits.{misfit_text}
+use Rattle.tinkey_plans.specs.Origins.{clear_text, faulty_text, it_is_text, locked_text, long_text, missing_text, not_json_text, not_proto_text}
+use Rattle.tinkey_plans.specs.Sealers.{sealer_text}
+use Rattle.tinkey_plans.specs.UnfitKeys.{unfit_text}
+use Rattle.tinkey_plans.specs.declared.mention.Mention.{Mention}
 use Rattle.tinkey_plans.specs.declared.status.Status.{Status}
 use Rattle.tinkey_plans.specs.declared.status.Status.TheVariants as status
 use Rattle.tinkey_words.specs.declared.words.help.Topic.TheVariants as topics
@@ -22,7 +25,7 @@ use Rattle.tinkey_words.specs.declared.words.help.Topic.TheVariants as topics
 abbrev pub code_of : Status → ℕ
 code_of status.Done = 0
 code_of (status.OpenFailed what sealer) = 1
-code_of status.KeysetInClear = 1
+code_of (status.KeysetInClear from) = 1
 code_of (status.Refused refused.VerifyFailed) = 1
 code_of status.NoKeyOf = 1
 code_of (status.StreamFailed number) = 1
@@ -38,8 +41,9 @@ code_of (status.ProtoLocked at from) = 3
 code_of (status.NotJson from begins) = 3
 code_of (status.Shape path from) = 3
 code_of (status.WrappedMember from) = 3
-code_of (status.Keyset fault) = 3
+code_of (status.Keyset fault from) = 3
 code_of (status.KeysetLocked fault from) = 3
+code_of (status.Unfit why key) = 3
 code_of (status.Refused (refused.NoManager i)) = 3
 code_of (status.Refused (refused.BadKey i rule)) = 3
 code_of (status.Refused (refused.NotRaw i)) = 3
@@ -53,7 +57,8 @@ code_of status.ReadFault = 5
 code_of status.WriteFault = 5
 code_of status.EntropyFault = 5
 code_of status.StoreFault = 5
-code_of status.KeysetTooLong = 6
+code_of (status.KeysetTooLong from) = 6
+code_of status.KeysetOutgrown = 6
 code_of status.InputTooLong = 6
 code_of status.TooManySegments = 6
 code_of status.LineTooLong = 6
@@ -85,8 +90,9 @@ key_text (Some i) = codes " of key " ++ decimal i
 unfoldable pub text_of : Status → List ℕ
 text_of status.Done = []
 text_of (status.OpenFailed what sealer) = line_refusal_text lines.OpenFailed
-text_of status.KeysetInClear = line_refusal_text lines.OpenFailed
+text_of (status.KeysetInClear from) = line_refusal_text lines.OpenFailed
 text_of (status.Refused why) = refusal_text why
+text_of (status.Unfit why key) = refusal_text why
 text_of status.NoKeyOf = codes "no key of the keyset"
 text_of (status.StreamFailed number) = codes "stream failed at segment " ++ decimal number
 text_of status.NoWords = codes "usage: word 0"
@@ -96,9 +102,10 @@ text_of (status.ProtoLocked at from) = codes "bad protobuf at byte " ++ decimal 
 text_of (status.NotJson from begins) = codes "not JSON"
 text_of (status.Shape path from) = codes "bad JSON member " ++ name_of path.member ++ key_text path.key
 text_of (status.WrappedMember from) = codes "bad JSON member encryptedKeyset"
-text_of (status.Keyset fault) = fault_text fault
+text_of (status.Keyset fault from) = fault_text fault
 text_of (status.KeysetLocked fault from) = fault_text fault
-text_of status.KeysetTooLong = codes "keyset too long"
+text_of (status.KeysetTooLong from) = codes "keyset too long"
+text_of status.KeysetOutgrown = codes "keyset too long"
 text_of (status.InMissing from) = codes "input file missing"
 text_of status.StreamMissing = codes "input file missing"
 text_of status.InputTooLong = codes "input too long"
@@ -122,27 +129,33 @@ unfoldable pub line_of : Status → List ℕ
 line_of status.Done = []
 line_of other = codes "tinkey: " ++ text_of other ++ codes "\n"
 
--- the second line of a keyset that isn't encrypted
-unfoldable pub in_clear_line : List ℕ
-in_clear_line = codes "tinkey: this is a keyset in clear: leave --master out\n"
+-- What the second line says, without its front: where a word is at fault, why; where no key opens a text, under which
+-- it was sealed; where a key can't serve, which one, and what it is for; where a keyset is missing, can't be read, has a
+-- fault, or is in clear or encrypted and should be the other, which option gives it; where a stream is refused, what is
+-- left of the output; some other statuses have a line of advice.
+unfoldable pub second_text : Mention → Status → List ℕ
+second_text mention (status.Usage misuse) = misfit_text misuse.why
+second_text mention (status.OpenFailed what sealer) = sealer_text what sealer
+second_text mention (status.Unfit why key) = unfit_text why key
+second_text mention (status.StreamFailed number) =
+    codes "damaged or cut, or sealed with another key or --ad: " ++ left_text mention.left
+second_text mention (status.ProtoLocked at from) = locked_text from
+second_text mention (status.KeysetLocked fault from) = locked_text from
+second_text mention (status.KeysetInClear from) = clear_text from
+second_text mention (status.InMissing from) = missing_text from
+second_text mention (status.NotJson from begins) = not_json_text from begins
+second_text mention (status.BadProto at from begins) = not_proto_text from begins
+second_text mention (status.Shape path from) = it_is_text from
+second_text mention (status.WrappedMember from) = it_is_text from
+second_text mention (status.Keyset fault from) = faulty_text from (keyset_advice fault)
+second_text mention (status.KeysetTooLong from) = long_text from
+second_text mention other = advice other
 
--- what stands behind the line: where there was no word, the list of the commands; where one was at fault, a
--- second line that tells why; where no key opens a text, one that tells under which it was sealed; where a
--- keyset in clear stands for an encrypted one, or the other way round, one that says so; and where a keyset is
--- missing or can't be read, one that tells which option gives it; some other statuses have a line of advice
-unfoldable pub behind_line : Status → List ℕ
-behind_line status.NoWords = help_text topics.Commands
-behind_line (status.Usage misuse) = misfit_line misuse.why
-behind_line (status.OpenFailed what sealer) = sealer_line what sealer
-behind_line (status.ProtoLocked at from) = locked_line from
-behind_line (status.KeysetLocked fault from) = locked_line from
-behind_line status.KeysetInClear = in_clear_line
-behind_line (status.InMissing from) = missing_line from
-behind_line (status.NotJson from begins) = not_json_line from begins
-behind_line (status.BadProto at from begins) = not_proto_line from begins
-behind_line (status.Shape path from) = file_line from
-behind_line (status.WrappedMember from) = file_line from
-behind_line other = advice other
+-- what stands behind the line: the list of the commands where there was no word, or a second line, which begins with
+-- the command that the words name
+unfoldable pub behind_line : Mention → Status → List ℕ
+behind_line mention status.NoWords = help_text topics.Commands
+behind_line mention other = line_with mention.command (second_text mention other)
 
 -- these bytes were written, or the first of them where the count of faults rose
 pub data Wrote (bytes : List ℕ) (old new : SinkState) : Type 0 where
@@ -150,5 +163,5 @@ pub data Wrote (bytes : List ℕ) (old new : SinkState) : Type 0 where
   write_failed : Rose old.faults new.faults → TookPrefix old new bytes → Wrote bytes old new
 
 -- the line was written and what stands behind it, or the first bytes of them
-abbrev pub Reports : Status → SinkState → SinkState → Type 0
-Reports s old new = Wrote (line_of s ++ behind_line s) old new
+abbrev pub Reports : Mention → Status → SinkState → SinkState → Type 0
+Reports mention s old new = Wrote (line_of s ++ behind_line mention s) old new

@@ -56,7 +56,7 @@ wire_status from begins locked at =
 
 abbrev pub fault_status : Origin → (locked : Bool) → KeysetRefusal → Status
 fault_status from locked fault =
-    if locked then status.KeysetLocked fault from else status.Keyset fault
+    if locked then status.KeysetLocked fault from else status.Keyset fault from
 
 -- they are the answer
 abbrev pub ends_at : Origin → Begins → (locked : Bool) → (at : ℕ) → Plan
@@ -65,7 +65,7 @@ ends_at from begins locked at =
 
 abbrev pub ends_faulty : Origin → (locked : Bool) → KeysetRefusal → Plan
 ends_faulty from locked fault =
-    if locked then ends (status.KeysetLocked fault from) tt else ends (status.Keyset fault) tt
+    if locked then ends (status.KeysetLocked fault from) tt else ends (status.Keyset fault from) tt
 
 -- the status is this one, or memory was refused while it was settled
 abbrev pub OrStarved : Status → Status → Type 0
@@ -122,11 +122,11 @@ keyset_in from formats.Binary bytes next =
 -- the bytes of a keyset in the file of this name, which this option gives, within a limit
 abbrev pub loads_bytes : Origin → (limit : ℕ) → (name : List ℕ) → (List ℕ → Plan) → Plan
 loads_bytes from limit name next =
-    loads name limit (status.InMissing from) status.KeysetTooLong tt tt next
+    loads name limit (status.InMissing from) (status.KeysetTooLong from) tt tt next
 
 -- those that the whole input is
 abbrev pub reads_bytes : (limit : ℕ) → (List ℕ → Plan) → Plan
-reads_bytes limit next = reads_all limit status.KeysetTooLong tt next
+reads_bytes limit next = reads_all limit (status.KeysetTooLong origins.StandardInput) tt next
 
 -- those in a file, or where none is named, those that the whole input is
 abbrev pub takes_bytes : Origin → (limit : ℕ) → (file : Option (List ℕ)) → (List ℕ → Plan) → Plan
@@ -210,7 +210,7 @@ written_in formats.Binary keys = binary_of keys
 -- bytes within a limit of keysets go on
 abbrev pub within_limit : (limit : ℕ) → (List ℕ → Plan) → List ℕ → Plan
 within_limit limit next bytes =
-    if nat_le (length bytes) limit then next bytes else ends status.KeysetTooLong tt
+    if nat_le (length bytes) limit then next bytes else ends status.KeysetOutgrown tt
 
 -- The written form of a keyset. One that is longer than what is read as a keyset is refused, before
 -- anything is put out.

@@ -14,19 +14,22 @@ use Rattle.segment_stream.specs.declared.keys.StreamKeysFault.{StreamKeysFault}
 use Rattle.segment_stream.specs.declared.keys.StreamKeysFault.TheVariants as key_faults
 use Rattle.tinkey_cmds.specs.Draws.{fill}
 use Rattle.tinkey_session.specs.declared.reply.Refusal.TheVariants as refused
+use Rattle.tinkey_plans.specs.UnfitKeys.{unfit_key}
+use Rattle.tinkey_plans.specs.declared.origin.Origin.TheVariants as origins
 use Rattle.tinkey_plans.specs.declared.status.Status.{Status}
 use Rattle.tinkey_plans.specs.declared.status.Status.TheVariants as status
+use Rattle.tinkey_plans.specs.declared.unfit.UnfitKey.{UnfitKey}
 use Rattle.tinkey_words.specs.declared.words.rows.Format.{Format}
 use Rattle.tinkey_plans.specs.Plan.{Plan, ends, allocates, collects, creates, draws, looks, sealings, pumps}
 use Rattle.tinkey_plans.specs.Locks.{loads_locked}
 use Rattle.tinkey_plans.specs.Steps.{with_made}
 use Rattle.tinkey_words.specs.Words.{Lock}
 
--- the rest goes on, or the record that gives no key for streams is refused
-abbrev pub unless_unfit : Option (ℕ × StreamUnfit) → Plan → Plan
-unless_unfit None next = next
-unless_unfit (Some (i, not_stream)) next = ends (status.Refused (refused.NoManager i)) tt
-unless_unfit (Some (i, bad_key rule)) next = ends (status.Refused (refused.BadKey i rule)) tt
+-- the rest goes on, or the record that gives no key for streams is refused, and named so by its place
+abbrev pub unless_unfit : (name : ℕ → UnfitKey) → Option (ℕ × StreamUnfit) → Plan → Plan
+unless_unfit name None next = next
+unless_unfit name (Some (i, not_stream)) next = ends (status.Unfit (refused.NoManager i) (name i)) tt
+unless_unfit name (Some (i, bad_key rule)) next = ends (status.Unfit (refused.BadKey i rule) (name i)) tt
 
 -- the keys for streams of a keyset
 abbrev pub keys_for : Keys → Option KeysForStreams
@@ -36,13 +39,13 @@ keys_for keys =
 -- They go on. A keyset without a fault whose records all give one has a primary one, so the refusal never
 -- comes (laws::fit_keysets_answer).
 abbrev pub with_keys : Option KeysForStreams → (KeysForStreams → Plan) → Plan
-with_keys None next = ends (status.Keyset faults.NoPrimary) tt
+with_keys None next = ends (status.Keyset faults.NoPrimary origins.Keyset) tt
 with_keys (Some keys) next = next keys
 
--- the keys for streams of a keyset
+-- the keys for streams of a keyset, which --keyset gives
 abbrev pub takes_stream_keys : Keys → (KeysForStreams → Plan) → Plan
 takes_stream_keys keys next =
-    allocates (unless_unfit (stream_unfit keys) (with_keys (keys_for keys) next))
+    allocates (unless_unfit (unfit_key origins.Keyset keys) (stream_unfit keys) (with_keys (keys_for keys) next))
 
 -- those of the keyset in a file
 abbrev pub loads_stream_keys : Table → Lock → List ℕ → Format → (KeysForStreams → Plan) → Plan
@@ -82,7 +85,7 @@ reseals_stream keys ad out =
     passes_to out (resealing (ciphers_of ad keys.keys) cipher (header_of cipher random)))))
 
 -- the status of a keyset that gives no keys for streams, and of want of memory
-abbrev pub stream_keys_refusal : StreamKeysFault → Status
-stream_keys_refusal (key_faults.NotStream i) = status.Refused (refused.NoManager i)
-stream_keys_refusal (key_faults.BadKey i rule) = status.Refused (refused.BadKey i rule)
-stream_keys_refusal key_faults.NoMemory = status.NoMemory
+abbrev pub stream_keys_refusal : (name : ℕ → UnfitKey) → StreamKeysFault → Status
+stream_keys_refusal name (key_faults.NotStream i) = status.Unfit (refused.NoManager i) (name i)
+stream_keys_refusal name (key_faults.BadKey i rule) = status.Unfit (refused.BadKey i rule) (name i)
+stream_keys_refusal name key_faults.NoMemory = status.NoMemory

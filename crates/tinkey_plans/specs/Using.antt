@@ -14,6 +14,7 @@ use Rattle.wrapped_prims.specs.declared.held.Held.{Held}
 use Rattle.tinkey_plans.specs.declared.sealer.Sealer.{Sealer}
 use Rattle.tinkey_plans.specs.declared.sealer.Unopened.{Unopened}
 use Rattle.tinkey_plans.specs.declared.sealer.Unopened.TheVariants as unopened
+use Rattle.tinkey_plans.specs.declared.origin.Origin.TheVariants as origins
 use Rattle.tinkey_plans.specs.declared.status.Status.{Status}
 use Rattle.tinkey_plans.specs.declared.status.Status.TheVariants as status
 use Rattle.tinkey_words.specs.declared.words.rows.Format.{Format}
@@ -96,7 +97,7 @@ limit_for _ = input_limit
 abbrev pub use_output : Table → Lock → List ℕ → Format → AskedWork → (List ℕ → Plan) → Plan
 use_output table lock name form work next =
     loads_locked table lock name form (λ keys.
-    handles table (primitive_for work) keys (λ fit.
+    handles origins.Keyset table (primitive_for work) keys (λ fit.
     reads_input (limit_for work) (λ input.
     works table keys work input next)))
 

@@ -42,7 +42,7 @@ is_json formats.Binary = false
 -- an AEAD
 abbrev pub loads_master : Origin → Table → (name : List ℕ) → Format → (Keys → Plan) → Plan
 loads_master from table name form next =
-    loads_keyset from name form (λ master. handles table Aead master (λ fit. next master))
+    loads_keyset from name form (λ master. handles from table Aead master (λ fit. next master))
 
 -- ---- wrapping
 
@@ -78,14 +78,14 @@ keyset_sealer form master text = keyset_sealer_of master (sealed_in (is_json for
 
 -- the status of a text that doesn't open, and is a keyset in clear or isn't: then this is told of the key that
 -- sealed it
-abbrev pub unopened_status : (clear : Bool) → Sealer → Status
-unopened_status clear sealer =
-    if clear then status.KeysetInClear else status.OpenFailed unopened.Keyset sealer
+abbrev pub unopened_status : Origin → (clear : Bool) → Sealer → Status
+unopened_status from clear sealer =
+    if clear then status.KeysetInClear from else status.OpenFailed unopened.Keyset sealer
 
 -- it is the answer
-abbrev pub ends_unopened : (clear : Bool) → Sealer → Plan
-ends_unopened clear sealer =
-    if clear then ends status.KeysetInClear tt else ends (status.OpenFailed unopened.Keyset sealer) tt
+abbrev pub ends_unopened : Origin → (clear : Bool) → Sealer → Plan
+ends_unopened from clear sealer =
+    if clear then ends (status.KeysetInClear from) tt else ends (status.OpenFailed unopened.Keyset sealer) tt
 
 -- The keyset goes on, or why the text gives none is the answer: of a text that begins so, from this place. A
 -- place in the keyset inside is told as one in the text around it is, but how the text begins says nothing of it.
@@ -95,10 +95,10 @@ with_unwrapped from begins clear sealer (Err (OuterWire at)) next =
     ends (status.BadProto at from begins) tt
 with_unwrapped from begins clear sealer (Err NotJson) next = ends (status.NotJson from begins) tt
 with_unwrapped from begins clear sealer (Err Member) next = ends (status.WrappedMember from) tt
-with_unwrapped from begins clear sealer (Err NotOpened) next = ends_unopened clear sealer
+with_unwrapped from begins clear sealer (Err NotOpened) next = ends_unopened from clear sealer
 with_unwrapped from begins clear sealer (Err (InnerWire at)) next =
     ends (status.BadProto at from begun.Otherwise) tt
-with_unwrapped from begins clear sealer (Err (Fault fault)) next = ends (status.Keyset fault) tt
+with_unwrapped from begins clear sealer (Err (Fault fault)) next = ends (status.Keyset fault from) tt
 with_unwrapped from begins clear sealer (Ok keys) next = next keys
 
 -- the same statuses, of the code's faults
@@ -106,9 +106,9 @@ abbrev pub unwrap_refusal : Origin → Begins → (clear : Bool) → Sealer → 
 unwrap_refusal from begins clear sealer (faults.OuterWire at) = status.BadProto at from begins
 unwrap_refusal from begins clear sealer faults.NotJson = status.NotJson from begins
 unwrap_refusal from begins clear sealer faults.Member = status.WrappedMember from
-unwrap_refusal from begins clear sealer faults.NotOpened = unopened_status clear sealer
+unwrap_refusal from begins clear sealer faults.NotOpened = unopened_status from clear sealer
 unwrap_refusal from begins clear sealer (faults.InnerWire at) = status.BadProto at from begun.Otherwise
-unwrap_refusal from begins clear sealer (faults.Fault fault) = status.Keyset fault
+unwrap_refusal from begins clear sealer (faults.Fault fault) = status.Keyset fault from
 unwrap_refusal from begins clear sealer faults.NoMemory = status.NoMemory
 
 -- the keyset that a wrapped text from this place gives under its master

@@ -3,15 +3,23 @@
 ghost use Rattle.std.specs.Prelude.{◌≡◌, ◌+◌, ◌≤◌, ◌++◌, length, codes, decimal};
 ghost use Rattle.keyset_json.specs.Members.{name_of};
 ghost use Rattle.tinkey_session.specs.Texts.{line_refusal_text, refusal_text};
-ghost use Rattle.tinkey_plans.specs.Status.{key_text, line_of, behind_line, in_clear_line, text_of, fault_text, Reports, Wrote};
+ghost use Rattle.tinkey_plans.specs.Status.{key_text, line_of, behind_line, second_text, text_of, fault_text, Reports, Wrote};
+ghost use Rattle.tinkey_plans.specs.Mentions.{left_text};
+ghost use Rattle.tinkey_plans.specs.declared.mention.Mention.{Mention};
 ghost use Rattle.tinkey_cmds.specs.declared.command.EditRefusal.TheVariants as edits;
 ghost use Rattle.tinkey_session.specs.declared.reply.Refusal.TheVariants as refused;
 
-use crate::advice::advice;
-use crate::misfit::misfit_line;
-use crate::origin::{file_line, locked_line, missing_line, not_json_line, not_proto_line};
-use crate::sealer::sealer_line;
-use crate::{Status, help_text};
+use crate::advice::{advice, keyset_advice};
+use crate::line_text::LineText;
+use crate::mention::{left_text, line_with};
+use crate::misfit::misfit_text;
+use crate::origin::{
+    clear_text, faulty_text, it_is_text, locked_text, long_text, missing_text, not_json_text,
+    not_proto_text,
+};
+use crate::sealer::sealer_text;
+use crate::unfit::unfit_text;
+use crate::{Left, Mention, Status, help_text, no_mention};
 use key_msgs::Rule;
 use keyset_json::{Member, Path};
 use keyset_model::KeysetRefusal;
@@ -21,51 +29,78 @@ use tinkey_session::{LineRefusal, Refusal, ShortText, line_refusal_text, refusal
 use tinkey_words::Topic;
 
 /// Writes the line of a status, and what follows it: the list of the commands if there was no word,
-/// why a word is at fault, under which key a text that doesn't open was sealed, that a keyset is
-/// in clear or encrypted but should be the other, which option gives a keyset that is missing or
-/// can't be read, or what else may help. A fault of `diag` changes no status.
-pub fn report<G: Sink>(diag: &mut G, status: Status)
-    ensures { Reports status (G.state diag.old) (G.state diag.new) }
+/// and otherwise a second line, if there is more to say. That begins with the command that the words
+/// name. It says why a word is at fault, under which key a text that doesn't open was sealed, which
+/// key can't serve and what it is for, which option gives a keyset that can't be read, or what else
+/// may help. A fault of `diag` changes no status.
+pub fn report<G: Sink>(diag: &mut G, mention: Mention, status: Status)
+    ensures { Reports mention status (G.state diag.old) (G.state diag.new) }
 {
     match write_all(diag, line(status).as_slice()) {
-        Ok(()) => write_behind(diag, status),
+        Ok(()) => write_behind(diag, mention, status),
         Err(_) => {}
     }
 }
 
 /// Writes what follows the line of a status.
 #[tactic(auto, unfolding(crate::specs::Status::behind_line))]
-fn write_behind<G: Sink>(diag: &mut G, status: Status)
-    ensures { Wrote (behind_line status) (G.state diag.old) (G.state diag.new) }
+fn write_behind<G: Sink>(diag: &mut G, mention: Mention, status: Status)
+    ensures { Wrote (behind_line mention status) (G.state diag.old) (G.state diag.new) }
 {
     match status {
         Status::NoWords => write_text(diag, help_text(Topic::Commands).as_bytes()),
-        Status::Usage(misuse) => write_text(diag, misfit_line(misuse.why).as_slice()),
-        Status::OpenFailed(what, sealer) => {
-            write_text(diag, sealer_line(what, sealer).as_slice());
+        _ => {
+            let text = second_text(mention, status);
+            write_text(diag, line_with(mention.command, text.as_slice()).as_slice());
         }
-        Status::ProtoLocked(_, from) => write_text(diag, locked_line(from).as_slice()),
-        Status::KeysetLocked(_, from) => write_text(diag, locked_line(from).as_slice()),
-        Status::KeysetInClear => write_text(diag, in_clear_line().as_slice()),
-        Status::InMissing(from) => write_text(diag, missing_line(from).as_slice()),
-        Status::NotJson(from, begins) => write_text(diag, not_json_line(from, begins).as_slice()),
-        Status::BadProto(_, from, begins) => {
-            write_text(diag, not_proto_line(from, begins).as_slice());
-        }
-        Status::Shape(_, from) => write_text(diag, file_line(from).as_slice()),
-        Status::WrappedMember(from) => write_text(diag, file_line(from).as_slice()),
-        _ => write_text(diag, advice(status).as_bytes()),
     }
 }
 
-/// The second line of a keyset that is in clear.
-#[tactic(auto, unfolding(crate::specs::Status::in_clear_line))]
-fn in_clear_line() -> ShortText
-    ensures { result ≡ in_clear_line }
+/// What the second line says, without its front, or nothing.
+#[tactic(auto, unfolding(crate::specs::Status::second_text))]
+fn second_text(mention: Mention, status: Status) -> LineText
+    ensures text { result ≡ second_text mention status }
+    ensures short { length result ≤ 220 }
 {
-    let mut line = ShortText::new();
-    line.push("tinkey: this is a keyset in clear: leave --master out\n");
-    line
+    match status {
+        Status::Usage(misuse) => misfit_text(misuse.why),
+        Status::OpenFailed(what, sealer) => sealer_text(what, sealer),
+        Status::Unfit(why, key) => unfit_text(why, key),
+        Status::StreamFailed(_) => broken_text(mention.left),
+        Status::ProtoLocked(_, from) => locked_text(from),
+        Status::KeysetLocked(_, from) => locked_text(from),
+        Status::KeysetInClear(from) => clear_text(from),
+        Status::InMissing(from) => missing_text(from),
+        Status::NotJson(from, begins) => not_json_text(from, begins),
+        Status::BadProto(_, from, begins) => not_proto_text(from, begins),
+        Status::Shape(_, from) => it_is_text(from),
+        Status::WrappedMember(from) => it_is_text(from),
+        Status::Keyset(fault, from) => faulty_text(from, keyset_advice(fault)),
+        Status::KeysetTooLong(from) => long_text(from),
+        _ => line_as(advice(status)),
+    }
+}
+
+/// Why a stream may be refused, and what is left of the output.
+fn broken_text(left: Left) -> LineText
+    ensures text { result ≡ codes "damaged or cut, or sealed with another key or --ad: " ++ left_text left }
+    ensures short { length result ≤ 220 }
+{
+    let mut text = LineText::new();
+    text.push("damaged or cut, or sealed with another key or --ad: ");
+    text.push(left_text(left));
+    text
+}
+
+/// A text as a line.
+fn line_as(says: &str) -> LineText
+    requires says_bound { length says.now ≤ 96 }
+    ensures text { result ≡ says.now }
+    ensures short { length result ≤ 220 }
+{
+    let mut text = LineText::new();
+    text.push(says);
+    text
 }
 
 /// Writes a text.
@@ -81,9 +116,9 @@ fn write_text<G: Sink>(diag: &mut G, text: &[u8])
 /// Reports on `diag` that memory couldn't be allocated before a run. Returns that status.
 pub fn starve<G: Sink>(diag: &mut G) -> Status
     ensures status { result ≡ Status.NoMemory }
-    ensures line { Reports result (G.state diag.old) (G.state diag.new) }
+    ensures line { (mention : Mention) → Reports mention result (G.state diag.old) (G.state diag.new) }
 {
-    report(diag, Status::NoMemory);
+    report(diag, no_mention(), Status::NoMemory);
     Status::NoMemory
 }
 
@@ -110,10 +145,11 @@ fn push_text(line: &mut ShortText, status: Status)
 {
     match status {
         Status::Done => {}
-        Status::OpenFailed(_, _) | Status::KeysetInClear => {
+        Status::OpenFailed(_, _) | Status::KeysetInClear(_) => {
             push_refusal(line, LineRefusal::OpenFailed);
         }
         Status::Refused(why) => push_refusal(line, LineRefusal::Refused(why)),
+        Status::Unfit(why, _) => push_refusal(line, LineRefusal::Refused(why)),
         Status::NoKeyOf => line.push("no key of the keyset"),
         Status::StreamFailed(number) => push_segment(line, number),
         Status::NoWords => line.push("usage: word 0"),
@@ -125,8 +161,8 @@ fn push_text(line: &mut ShortText, status: Status)
         Status::NotJson(_, _) => line.push("not JSON"),
         Status::Shape(path, _) => push_path(line, path),
         Status::WrappedMember(_) => line.push("bad JSON member encryptedKeyset"),
-        Status::Keyset(fault) | Status::KeysetLocked(fault, _) => push_fault(line, fault),
-        Status::KeysetTooLong => line.push("keyset too long"),
+        Status::Keyset(fault, _) | Status::KeysetLocked(fault, _) => push_fault(line, fault),
+        Status::KeysetTooLong(_) | Status::KeysetOutgrown => line.push("keyset too long"),
         Status::InMissing(_) | Status::StreamMissing => line.push("input file missing"),
         Status::InputTooLong => line.push("input too long"),
         Status::TooManySegments => line.push("too many segments"),

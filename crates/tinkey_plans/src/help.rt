@@ -377,9 +377,9 @@ A command that fails prints a line on standard error and ends with an exit code.
      The JSON isn't an encrypted keyset, as wrap-keyset writes one.
 
 3  keyset has no key
-     An empty input in the binary form is such a keyset: check that the file isn't empty. An
-     encrypted keyset in JSON also gives this line, and a second one that says so: give
-     --master.
+     An empty input in the binary form is such a keyset: check that the file isn't empty. A
+     second line says which file it is, as for each fault of a keyset below. An encrypted
+     keyset in JSON also gives this line, and a second one that says so: give --master.
 
 3  keyset has too many keys
      A keyset has at most 1,000 keys. Delete some with the tool that made it.
@@ -408,12 +408,12 @@ A command that fails prints a line on standard error and ends with an exit code.
      them with the tool that made the keyset.
 
 3  key {key} has no manager for this command
-     The key is of a kind that this command doesn't use: keys for AEAD are for seal, open,
-     reseal, eseal, eopen and ereseal, AES-SIV for dseal, dopen and dreseal, HMAC and CMAC
-     for tag and verify, PRFs for derive, streaming keys for sseal, sopen, sreseal and
-     srange. The keys of a master are for AEAD. One ENABLED key of another kind is enough
-     for this: disable it (if it is the primary, make another key the primary first), or
-     keep it in a keyset of its own.
+     The key is of a kind that this command doesn't use; a second line has its id, and what
+     it is for: keys for AEAD are for seal, open, reseal, eseal, eopen and ereseal, AES-SIV
+     for dseal, dopen and dreseal, HMAC and CMAC for tag and verify, PRFs for derive,
+     streaming keys for sseal, sopen, sreseal and srange. The keys of a master are for AEAD.
+     One ENABLED key of another kind is enough for this: disable it (if it is the primary,
+     make another key the primary first), or keep it in a keyset of its own.
 
 3  key {key} is not valid: {rule}
      The key breaks this rule, for example with a size that its kind doesn't have. Another

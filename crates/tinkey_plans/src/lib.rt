@@ -12,13 +12,18 @@ mod advice;
 mod diagnostic;
 mod help;
 pub mod laws;
+mod line_text;
+mod mention;
 mod misfit;
 mod origin;
 mod sealer;
 mod status;
+mod unfit;
 
 pub use diagnostic::{report, starve};
 pub use help::{help_text, version_text};
+pub use mention::{Left, Mention, mention_of, no_mention};
 pub use origin::{Begins, Origin, begins_of};
 pub use sealer::{Sealer, Unopened};
 pub use status::Status;
+pub use unfit::{UnfitKey, handle_status, stream_keys_status};

@@ -2,27 +2,25 @@
 
 ghost use Rattle.std.specs.Prelude.{◌≡◌, ◌+◌, ◌≤◌, ◌++◌, length};
 ghost use Rattle.tinkey_words.specs.Names.{form_for, option_row, row_of};
-ghost use Rattle.tinkey_plans.specs.Misfits.{dash_text, form_text, misfit_line, misfit_text, told_of};
+ghost use Rattle.tinkey_plans.specs.Misfits.{dash_text, form_text, misfit_text, told_of};
 
+use crate::line_text::LineText;
 use tink_base::TEMPORARY;
-use tinkey_session::ShortText;
 use tinkey_words::{CommandName, Misfit, OptionName, ValueForm};
 
-/// The line that says why a word is at fault.
-#[tactic(auto, unfolding(crate::specs::Misfits::misfit_line))]
-pub fn misfit_line(why: Misfit) -> ShortText
-    ensures { result ≡ misfit_line why }
+/// Why a word is at fault.
+pub(crate) fn misfit_text(why: Misfit) -> LineText
+    ensures text { result ≡ misfit_text why }
+    ensures short { length result ≤ 220 }
 {
-    let mut line = ShortText::new();
-    line.push("tinkey: ");
-    push_misfit(&mut line, why);
-    line.push("\n");
-    line
+    let mut text = LineText::new();
+    push_misfit(&mut text, why);
+    text
 }
 
 /// Adds why a word is at fault, for which there is room.
 #[tactic(auto, unfolding(crate::specs::Misfits::misfit_text))]
-fn push_misfit(line: &mut ShortText, why: Misfit)
+fn push_misfit(line: &mut LineText, why: Misfit)
     requires room { length line.old ≤ 8 }
     ensures text { line.new ≡ line.old ++ misfit_text why }
     ensures short { length line.new ≤ 127 }
@@ -96,7 +94,7 @@ fn push_misfit(line: &mut ShortText, why: Misfit)
 }
 
 /// Adds what is said of an option's value, with its form.
-fn push_form(line: &mut ShortText, name: OptionName, says: &str, command: CommandName)
+fn push_form(line: &mut LineText, name: OptionName, says: &str, command: CommandName)
     requires room { length line.old ≤ 8 }
     requires says_bound { length says.now ≤ 18 }
     ensures text { line.new ≡ line.old ++ told_of
@@ -108,7 +106,7 @@ fn push_form(line: &mut ShortText, name: OptionName, says: &str, command: Comman
 }
 
 /// Adds three pieces of text, and the command whose help says more.
-fn push_told(line: &mut ShortText, a: &str, b: &str, c: &str, command: CommandName)
+fn push_told(line: &mut LineText, a: &str, b: &str, c: &str, command: CommandName)
     requires room { length line.old ≤ 8 }
     requires told_bound { length a.now + length b.now + length c.now ≤ 80 }
     ensures text { line.new ≡ line.old ++ told_of a.now b.now c.now command }
@@ -122,7 +120,7 @@ fn push_told(line: &mut ShortText, a: &str, b: &str, c: &str, command: CommandNa
 }
 
 /// A command's word.
-fn command_word(command: CommandName) -> &'static str
+pub(crate) fn command_word(command: CommandName) -> &'static str
     ensures word { result.now ≡ (row_of command).word }
     ensures short { length result.now ≤ 18 }
 {

@@ -1,9 +1,9 @@
 //! Where a keyset comes from and how its bytes begin, and the second lines that report it.
 
 ghost use Rattle.std.specs.Prelude.{◌≡◌, ◌+◌, ◌≤◌, ◌++◌, codes, length, slice_get};
-ghost use Rattle.tinkey_plans.specs.Origins.{begins_of, file_line, file_text, first_dark, format_text, is_brace, is_front_tag, locked_line, locked_text, missing_line, not_json_line, not_proto_line};
+ghost use Rattle.tinkey_plans.specs.Origins.{begins_of, clear_text, faulty_text, file_text, first_dark, format_text, is_brace, is_front_tag, it_is_text, locked_text, long_text, missing_text, not_json_text, not_proto_text, served_text};
 
-use tinkey_session::ShortText;
+use crate::line_text::LineText;
 
 /// Where a keyset comes from.
 #[derive(Clone, Copy, Debug, PartialEq, Eq)]
@@ -74,84 +74,114 @@ fn first_dark(bytes: &[u8]) -> Option<u8>
     bytes.trim_ascii_start().first().copied()
 }
 
-/// The second line if there is no such file.
-pub(crate) fn missing_line(from: Origin) -> ShortText
-    ensures { result ≡ missing_line from }
+/// What the second line says if there is no such file.
+pub(crate) fn missing_text(from: Origin) -> LineText
+    ensures text { result ≡ missing_text from }
+    ensures short { length result ≤ 220 }
 {
-    let mut line = line_of_file(from);
-    line.push(" is not there\n");
-    line
+    file_with(from, " is not there")
 }
 
-/// The second line if there is nothing to report but the file.
-pub(crate) fn file_line(from: Origin) -> ShortText
-    ensures { result ≡ file_line from }
+/// The same if there is nothing to report but the file.
+pub(crate) fn it_is_text(from: Origin) -> LineText
+    ensures text { result ≡ it_is_text from }
+    ensures short { length result ≤ 220 }
 {
-    let mut line = ShortText::new();
-    line.push("tinkey: it is ");
-    line.push(file_text(from));
-    line.push("\n");
-    line
+    let mut text = LineText::new();
+    text.push("it is ");
+    text.push(file_text(from));
+    text
 }
 
-/// The second line if the file is an encrypted keyset, and one in clear is read.
-pub(crate) fn locked_line(from: Origin) -> ShortText
-    ensures { result ≡ locked_line from }
+/// The same if the file is longer than any keyset that is read.
+pub(crate) fn long_text(from: Origin) -> LineText
+    ensures text { result ≡ long_text from }
+    ensures short { length result ≤ 220 }
 {
-    let mut line = line_of_file(from);
-    line.push(" is an encrypted keyset, ");
-    line.push(locked_text(from));
-    line.push("\n");
-    line
+    let says = " is too long: a keyset has at most 1048576 bytes, and an encrypted one 4194304";
+    file_with(from, says)
 }
 
-/// The second line if the file isn't JSON, and begins so.
-pub(crate) fn not_json_line(from: Origin, begins: Begins) -> ShortText
-    ensures { result ≡ not_json_line from begins }
+/// The same if the file is an encrypted keyset, and one in clear is read.
+pub(crate) fn locked_text(from: Origin) -> LineText
+    ensures text { result ≡ locked_text from }
+    ensures short { length result ≤ 220 }
 {
-    let mut line = line_of_file(from);
+    let mut text = file_with(from, " is an encrypted keyset, ");
+    text.push(served_text(from));
+    text
+}
+
+/// The same if the file is a keyset in clear, and an encrypted one is read.
+pub(crate) fn clear_text(from: Origin) -> LineText
+    ensures text { result ≡ clear_text from }
+    ensures short { length result ≤ 220 }
+{
+    file_with(from, " is a keyset in clear: leave --master out")
+}
+
+/// The same if the file isn't JSON, and begins so.
+pub(crate) fn not_json_text(from: Origin, begins: Begins) -> LineText
+    ensures text { result ≡ not_json_text from begins }
+    ensures short { length result ≤ 220 }
+{
     match begins {
         Begins::AsBinary => {
-            line.push(" begins as the binary form does: add ");
-            line.push(format_text(from));
-            line.push(" binary\n");
+            let mut text = file_with(from, " begins as the binary form does: add ");
+            text.push(format_text(from));
+            text.push(" binary");
+            text
         }
-        Begins::AsJson => line.push(" begins as JSON does, but can't be read to its end\n"),
-        Begins::Otherwise => line.push(" doesn't begin with {, as a keyset in JSON does\n"),
+        Begins::AsJson => file_with(from, " begins as JSON does, but can't be read to its end"),
+        Begins::Otherwise => file_with(from, " doesn't begin with {, as a keyset in JSON does"),
     }
-    line
 }
 
-/// The second line if the file can't be read in the binary form, and begins so.
-pub(crate) fn not_proto_line(from: Origin, begins: Begins) -> ShortText
-    ensures { result ≡ not_proto_line from begins }
+/// The same if the file can't be read in the binary form, and begins so.
+pub(crate) fn not_proto_text(from: Origin, begins: Begins) -> LineText
+    ensures text { result ≡ not_proto_text from begins }
+    ensures short { length result ≤ 220 }
 {
-    let mut line = line_of_file(from);
     match begins {
         Begins::AsJson => {
-            line.push(" begins as JSON does: leave ");
-            line.push(format_text(from));
-            line.push(" binary out\n");
+            let mut text = file_with(from, " begins as JSON does: leave ");
+            text.push(format_text(from));
+            text.push(" binary out");
+            text
         }
-        _ => line.push(" is damaged, or isn't a keyset\n"),
+        _ => file_with(from, " is damaged, or isn't a keyset"),
     }
-    line
 }
 
-/// The front of a second line, to the name of what is read.
-fn line_of_file(from: Origin) -> ShortText
-    ensures text { result ≡ codes "tinkey: " ++ file_text from }
-    ensures short { length result ≤ 40 }
+/// The same if the file's keyset has a fault, of which this is said.
+pub(crate) fn faulty_text(from: Origin, says: &str) -> LineText
+    requires says_bound { length says.now ≤ 96 }
+    ensures text { result ≡ faulty_text from says.now }
+    ensures short { length result ≤ 220 }
 {
-    let mut line = ShortText::new();
-    line.push("tinkey: ");
-    line.push(file_text(from));
-    line
+    let mut text = LineText::new();
+    text.push("in ");
+    text.push(file_text(from));
+    text.push(": ");
+    text.push(says);
+    text
+}
+
+/// The name of what is read, and what is said of it.
+fn file_with(from: Origin, says: &str) -> LineText
+    requires says_bound { length says.now ≤ 96 }
+    ensures text { result ≡ file_text from ++ says.now }
+    ensures short { length result ≤ length says.now + 32 }
+{
+    let mut text = LineText::new();
+    text.push(file_text(from));
+    text.push(says);
+    text
 }
 
 /// The name of what is read.
 #[tactic(auto, unfolding(crate::specs::Origins::file_text))]
-fn file_text(from: Origin) -> &'static str
+pub(crate) fn file_text(from: Origin) -> &'static str
     ensures text { result.now ≡ file_text from }
     ensures short { length result.now ≤ 32 }
 {
@@ -166,9 +196,9 @@ fn file_text(from: Origin) -> &'static str
 }
 
 /// What an encrypted keyset is, if one in clear is read.
-#[tactic(auto, unfolding(crate::specs::Origins::locked_text))]
-fn locked_text(from: Origin) -> &'static str
-    ensures text { result.now ≡ locked_text from }
+#[tactic(auto, unfolding(crate::specs::Origins::served_text))]
+fn served_text(from: Origin) -> &'static str
+    ensures text { result.now ≡ served_text from }
     ensures short { length result.now ≤ 32 }
 {
     match from {

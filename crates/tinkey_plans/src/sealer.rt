@@ -2,9 +2,9 @@
 
 ghost use Rattle.std.specs.Prelude.{◌≡◌, ◌+◌, ◌≤◌, ◌++◌, codes, length};
 ghost use Rattle.std.specs.Fmt.{decimal};
-ghost use Rattle.tinkey_plans.specs.Sealers.{destroyed_text, disabled_text, enabled_text, none_text, sealer_line, sealer_text, under_key};
+ghost use Rattle.tinkey_plans.specs.Sealers.{destroyed_text, disabled_text, enabled_text, none_text, sealer_text, under_key};
 
-use tinkey_session::ShortText;
+use crate::line_text::LineText;
 
 /// What no key opens.
 #[derive(Clone, Copy, Debug, PartialEq, Eq)]
@@ -35,21 +35,19 @@ pub enum Sealer {
     Destroyed(u32),
 }
 
-/// The second line for what no key opens.
-#[tactic(auto, unfolding(crate::specs::Sealers::sealer_line))]
-pub(crate) fn sealer_line(what: Unopened, sealer: Sealer) -> ShortText
-    ensures { result ≡ sealer_line what sealer }
+/// The second line for what no key opens, without its front.
+pub(crate) fn sealer_text(what: Unopened, sealer: Sealer) -> LineText
+    ensures text { result ≡ sealer_text what sealer }
+    ensures short { length result ≤ 220 }
 {
-    let mut line = ShortText::new();
-    line.push("tinkey: ");
-    push_sealer(&mut line, what, sealer);
-    line.push("\n");
-    line
+    let mut text = LineText::new();
+    push_sealer(&mut text, what, sealer);
+    text
 }
 
 /// Adds under which key it was sealed, for which there is room.
 #[tactic(auto, unfolding(crate::specs::Sealers::sealer_text))]
-fn push_sealer(line: &mut ShortText, what: Unopened, sealer: Sealer)
+fn push_sealer(line: &mut LineText, what: Unopened, sealer: Sealer)
     requires room { length line.old ≤ 8 }
     ensures text { line.new ≡ line.old ++ sealer_text what sealer }
     ensures short { length line.new ≤ 127 }
@@ -64,7 +62,7 @@ fn push_sealer(line: &mut ShortText, what: Unopened, sealer: Sealer)
 }
 
 /// Adds that no key is named, and what is said of the RAW keys.
-fn push_raw(line: &mut ShortText, what: Unopened)
+fn push_raw(line: &mut LineText, what: Unopened)
     requires room { length line.old ≤ 8 }
     ensures text { line.new ≡ line.old ++
         (none_text what ++ codes ", and no ENABLED RAW key opens it") }
@@ -75,7 +73,7 @@ fn push_raw(line: &mut ShortText, what: Unopened)
 }
 
 /// Adds a key's id, and what is said of it.
-fn push_key(line: &mut ShortText, id: u32, says: &str)
+fn push_key(line: &mut LineText, id: u32, says: &str)
     requires room { length line.old ≤ 8 }
     requires says_bound { length says.now ≤ 88 }
     ensures text { line.new ≡ line.old ++ under_key id says.now }
@@ -87,7 +85,7 @@ fn push_key(line: &mut ShortText, id: u32, says: &str)
 }
 
 /// Adds an id in decimal digits, for which there is room.
-fn push_id(line: &mut ShortText, id: u32)
+fn push_id(line: &mut LineText, id: u32)
     requires room { length line.old ≤ 40 }
     ensures text { line.new ≡ line.old ++ decimal id }
     ensures short { length line.new ≤ length line.old + 10 }

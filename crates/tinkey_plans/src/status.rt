@@ -2,18 +2,16 @@
 
 ghost use Rattle.std.specs.Prelude.{◌≡◌};
 
-use crate::{Begins, Origin, Sealer, Unopened};
+use crate::{Begins, Origin, Sealer, UnfitKey, Unopened};
 use key_msgs::Rule;
 use keyset_json::Path;
 use keyset_model::KeysetRefusal;
-use segment_stream::StreamKeysFault;
 use stream_range::RangeFault;
 use tink_base::NoMemory;
 use tinkey_cmds::EditError;
 use tinkey_selftest::SelfTestFault;
-use tinkey_session::{Refusal, refusal_in};
+use tinkey_session::Refusal;
 use tinkey_words::Misuse;
-use wrapped_prims::HandleError;
 
 /// How a run ends, with the place where it was refused.
 ///
@@ -25,11 +23,13 @@ pub enum Status {
     Done,
     /// No key of the keyset opens this; with what is known of the key that sealed it.
     OpenFailed(Unopened, Sealer),
-    /// The master opens no keyset in the text, which is a keyset in clear.
-    KeysetInClear,
-    /// It is refused as a line of a session is: for the name of a template, the first record that
-    /// can't serve, the length or the edit that was asked for, or because no key made the tag.
+    /// The master opens no keyset in the text from there, which is a keyset in clear.
+    KeysetInClear(Origin),
+    /// It is refused as a line of a session is: for the name of a template, the length or the edit
+    /// that was asked for, or because no key made the tag.
     Refused(Refusal),
+    /// The first record that can't serve, and why, as a line of a session is refused for it.
+    Unfit(Refusal, UnfitKey),
     /// No key of the keyset has the output prefix in front of the input, and each has one.
     NoKeyOf,
     /// The first segment of the stream, counted from 0, that doesn't authenticate in its place.
@@ -51,12 +51,14 @@ pub enum Status {
     /// The JSON of the wrapped keyset from there isn't an object, or its encrypted bytes aren't of
     /// their form.
     WrappedMember(Origin),
-    /// The keyset has this fault.
-    Keyset(KeysetRefusal),
+    /// The keyset from there has this fault.
+    Keyset(KeysetRefusal, Origin),
     /// The keyset from there has this fault, and its text is an encrypted keyset.
     KeysetLocked(KeysetRefusal, Origin),
-    /// The keyset has more than 1,048,576 bytes, or a wrapped one more than 4,194,304.
-    KeysetTooLong,
+    /// The keyset from there has more than 1,048,576 bytes, or a wrapped one more than 4,194,304.
+    KeysetTooLong(Origin),
+    /// The keyset that would be written has more bytes than that.
+    KeysetOutgrown,
     /// The file of the keyset that this option gives is missing.
     InMissing(Origin),
     /// The file of the stream is missing.
@@ -101,7 +103,7 @@ impl Status {
         match self {
             Status::Done => 0,
             Status::OpenFailed(_, _)
-            | Status::KeysetInClear
+            | Status::KeysetInClear(_)
             | Status::Refused(Refusal::VerifyFailed)
             | Status::NoKeyOf
             | Status::StreamFailed(_) => 1,
@@ -119,8 +121,9 @@ impl Status {
             | Status::NotJson(_, _)
             | Status::Shape(_, _)
             | Status::WrappedMember(_)
-            | Status::Keyset(_)
+            | Status::Keyset(_, _)
             | Status::KeysetLocked(_, _)
+            | Status::Unfit(_, _)
             | Status::Refused(Refusal::NoManager(_) | Refusal::BadKey(_, _) | Refusal::NotRaw(_))
             | Status::NoDekManager
             | Status::DekRefused(_) => 3,
@@ -129,7 +132,8 @@ impl Status {
             | Status::Refused(Refusal::Command(_))
             | Status::OutExists => 4,
             Status::ReadFault | Status::WriteFault | Status::EntropyFault | Status::StoreFault => 5,
-            Status::KeysetTooLong
+            Status::KeysetTooLong(_)
+            | Status::KeysetOutgrown
             | Status::InputTooLong
             | Status::TooManySegments
             | Status::LineTooLong
@@ -156,33 +160,6 @@ impl From<Refusal> for Status {
 
     fn from(why: Refusal) -> Status {
         Status::Refused(why)
-    }
-}
-
-impl From<HandleError> for Status {
-    ghost use Rattle.tinkey_plans.specs.Handles.{handle_refusal};
-
-    ghost from_gives = { λ fault s. s ≡ handle_refusal fault };
-
-    fn from(fault: HandleError) -> Status {
-        match refusal_in(fault) {
-            Some(why) => Status::Refused(why),
-            None => Status::NoMemory,
-        }
-    }
-}
-
-impl From<StreamKeysFault> for Status {
-    ghost use Rattle.tinkey_plans.specs.Streaming.{stream_keys_refusal};
-
-    ghost from_gives = { λ fault s. s ≡ stream_keys_refusal fault };
-
-    fn from(fault: StreamKeysFault) -> Status {
-        match fault {
-            StreamKeysFault::NotStream(i) => Status::Refused(Refusal::NoManager(i)),
-            StreamKeysFault::BadKey(i, rule) => Status::Refused(Refusal::BadKey(i, rule)),
-            StreamKeysFault::NoMemory => Status::NoMemory,
-        }
     }
 }
 

@@ -73,6 +73,7 @@ use Rattle.tinkey_readable.specs.RangeRuns.{IsRanged}
 use Rattle.tinkey_readable.specs.Runs.{IsDone, IsFree, ReadIsStored, bytes_at}
 use Rattle.tinkey_readable.specs.StreamRuns.{IsOpened, NoOtherBefore, WasSealed}
 use Rattle.tinkey_words.specs.Words.{AskedEnvelope, AskedWork, primitive_for, to_dopen, to_dseal, to_eopen, to_eseal, to_open, to_seal, to_tag, to_verify}
+use Rattle.tinkey_plans.specs.UnfitKeys.{unfit_key}
 
 -- ---- where something was made
 
@@ -390,8 +391,8 @@ pub unwraps_anywhere : FaultlessKeysets → BinaryBack → JsonBack → ReadIsSt
 unwraps_anywhere law binary json stored back master other old new r prefix holds_master is_master primary prefixed wrap before text keys x random holds is serves same told name in' out lies in_form read free short =
     let w = wraps_done wrap master before text old keys x is_master is in
     let gave' = unwrapped law binary json stored back wrap master before text old new keys r prefix x is_master is holds_master holds random primary prefixed same in
-    let l = load_reached origins.Master name other.form other.bytes new (λ m. handles standard_table Aead m (λ fit. opens_plan in' out m)) told lies serves.read serves.within in
-    let f : answer (unless_unfit (unfit new Aead standard_table) (opens_plan in' out new)) told ≡ answer (opens_plan in' out new) told = ap (λ u. answer (unless_unfit u (opens_plan in' out new)) told) serves.fit in
+    let l = load_reached origins.Master name other.form other.bytes new (λ m. handles origins.Master standard_table Aead m (λ fit. opens_plan in' out m)) told lies serves.read serves.within in
+    let f : answer (unless_unfit (unfit_key origins.Master new) (unfit new Aead standard_table) (opens_plan in' out new)) told ≡ answer (opens_plan in' out new) told = ap (λ u. answer (unless_unfit (unfit_key origins.Master new) u (opens_plan in' out new)) told) serves.fit in
     let t = text_reached origins.In in'.file text.bytes (λ text. unwraps (origin_of origins.In in'.file) new standard_table in'.form text (puts_keyset out)) told read w.short in
     let behind' = behind in'.file told in
     let g = given_keyset (origin_of origins.In in'.file) new in'.form text.bytes keys (puts_keyset out) behind' (ap (λ f. unwrap_of new standard_table text.bytes (is_json f)) in_form ∙ gave') in

@@ -32,6 +32,8 @@ use Rattle.tinkey_readable.proofs.LyingLemmas.{behind_faultless, loads_reached, 
 use Rattle.tinkey_readable.proofs.ReachLemmas.{IsDoneAnswer}
 use Rattle.tinkey_readable.proofs.StreamRunLemmas.{fit_done, keys_done, with_primary}
 use Rattle.wrapped_prims.specs.Candidates.{is_raw, prefix_of, same_prefix}
+use Rattle.tinkey_plans.specs.UnfitKeys.{unfit_key}
+use Rattle.tinkey_plans.specs.declared.origin.Origin.TheVariants as origins
 
 -- ---- lists
 
@@ -199,8 +201,8 @@ stream_goes : (keys : Keys) (ad : List ℕ) (told : Told) → IsDoneAnswer (answ
 unfolding stream_keys
 stream_goes keys ad told done =
     let next = with_keys (keys_for keys) (tells_front ad keys writes) in
-    let fit = fit_done (stream_unfit keys) next told done in
-    let done1 : IsDoneAnswer (answer next told) = sym (ap (λ u. (answer (unless_unfit u next) told).status) fit) ∙ done in
+    let fit = fit_done _ (stream_unfit keys) next told done in
+    let done1 : IsDoneAnswer (answer next told) = sym (ap (λ u. (answer (unless_unfit (unfit_key origins.Keyset keys) u next) told).status) fit) ∙ done in
     let k = keys_done (keys_for keys) (tells_front ad keys writes) told done1 in
     let those = k.0 in
     let done2 : IsDoneAnswer (answer (tells_front ad keys writes those) told) = sym (ap (λ o. (answer (with_keys o (tells_front ad keys writes)) told).status) k.1) ∙ done1 in
@@ -223,7 +225,7 @@ stream_comes answers keys ad told faultless x =
     let one = among_given key_in keys.records x.key (among-contains _ x.key x.among) in
     let f = among_found (opens_first ad told.input) keys.records one.0 one.1 (ap (key_fits ad told.input) one.2 ∙ x.opens) in
     let found : stream_record keys ad (front_for those told.input) ≡ Some f.0 = same_front keys primary.0 those ad told.input primary.2 ∙ f.1 in
-    ap (λ u. (answer (unless_unfit u (with_keys (keys_for keys) (tells_front ad keys writes))) told).status) x.fit
+    ap (λ u. (answer (unless_unfit (unfit_key origins.Keyset keys) u (with_keys (keys_for keys) (tells_front ad keys writes))) told).status) x.fit
     ∙ ap (λ o. (answer (with_keys o (tells_front ad keys writes)) told).status) k.1
     ∙ ap (λ o. (answer (with_lines (option_map key_line o) writes) (record told { input = drop (stream_front_size those.keys) told.input })).status) found
 

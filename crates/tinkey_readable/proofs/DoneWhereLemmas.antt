@@ -35,6 +35,7 @@ use Rattle.tinkey_readable.proofs.LyingLemmas.{behind_faultless, behind_reached,
 use Rattle.tinkey_readable.proofs.PutLemmas.{made_put, worked}
 use Rattle.tinkey_readable.proofs.ReachLemmas.{IsDoneAnswer, behind, found_edit, found_row, input_reached, made_done, use_done, work_behind}
 use Rattle.tinkey_readable.proofs.WrappedRunLemmas.{behind_files, behind_random}
+use Rattle.tinkey_plans.specs.UnfitKeys.{unfit_key}
 
 -- ---- edits
 
@@ -239,7 +240,7 @@ shown_free true file bytes told done = name_free file (hex_line bytes) told done
 
 -- the steps behind the keyset
 abbrev uses : Table → AskedWork → Output → Keys → Plan
-uses table work out keys = handles table (primitive_for work) keys (λ fit. work_behind table keys work (puts_output out))
+uses table work out keys = handles origins.Keyset table (primitive_for work) keys (λ fit. work_behind table keys work (puts_output out))
 
 pub works_done : FitKeysetsAnswer → FitKeysetsSeal → WorksDone
 works_done answers seals table lock name form work out told = (goes, done)
@@ -273,7 +274,7 @@ works_done answers seals table lock name form work out told = (goes, done)
     done x =
         let next : List ℕ → Plan = λ input. works table x.keys work input (puts_output out) in
         let r = loads_reached table lock name form x.keys (uses table work out) told x.lies
-        ∙ ap (λ u. answer (unless_unfit u (work_behind table x.keys work (puts_output out))) told) x.fit
+        ∙ ap (λ u. answer (unless_unfit (unfit_key origins.Keyset x.keys) u (work_behind table x.keys work (puts_output out))) told) x.fit
         ∙ input_reached (limit_for work) next told x.short in
         let d = work_done seals table x.keys work told.input left (record { faultless = behind_faultless table lock place told x.keys x.lies; fit = x.fit }) x.goes in
         let w = worked table x.keys work told.input writes left d in

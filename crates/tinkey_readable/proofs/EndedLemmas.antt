@@ -58,6 +58,7 @@ use Rattle.tinkey_readable.specs.Readable.{AreReadable, HasReplies, SessionsAreR
 use Rattle.tinkey_readable.specs.Runs.{read_in}
 use Rattle.tinkey_readable.proofs.ReadableLemmas.{none_replied}
 use Rattle.tinkey_readable.proofs.RunLemmas.{ok_of}
+use Rattle.tinkey_plans.specs.UnfitKeys.{unfit_key}
 
 -- ---- the lines of the first bytes of an input
 
@@ -260,7 +261,7 @@ file_quiet name bytes old s new (create_starved is only kept stood given) = (λ 
 within_quiet : (limit : ℕ) (next : List ℕ → Plan) (bytes : List ℕ) (old : World) (s : Status) (new : World) → (Ends (next bytes) old s new → Quiet old s new) → Ends (within_limit limit next bytes) old s new → Quiet old s new
 within_quiet limit next bytes old s new later ended = by (nat_le (length bytes) limit) ended
   where
-    by : (b : Bool) → Ends (if b then next bytes else plans.ends status.KeysetTooLong tt) old s new → Quiet old s new
+    by : (b : Bool) → Ends (if b then next bytes else plans.ends status.KeysetOutgrown tt) old s new → Quiet old s new
     by true run = later run
     by false (is, same) = (λ h. absurd (cc), ap (λ (w : World). w.sink) same)
 
@@ -429,9 +430,9 @@ lock_ends readable law fit table lock of_lock over name bytes form out keys told
     taken master = takes_under origins.Keyset table master (record { file = Some name; form = form }) (holds_session table master out)
 
     fits : Keys → Plan
-    fits m = handles table Aead m (λ fit. taken (Some m))
+    fits m = handles origins.Master table Aead m (λ fit. taken (Some m))
 
-    by_fit : (u : Option (ℕ × Unfit)) → Ends (unless_unfit u (taken (Some over))) mid s new → HasReplies table keys told old s new
+    by_fit : (u : Option (ℕ × Unfit)) → Ends (unless_unfit (unfit_key origins.Master over) u (taken (Some over))) mid s new → HasReplies table keys told old s new
     by_fit None run =
         let r = text_ends readable law fit table (Some over) name bytes form out keys told mid s new mid_tells there gives run in
         record { answered = r.answered; later = r.later; cut = r.cut; all = r.all; whole = r.whole; took = r.took; front = r.front; readable = r.readable }

@@ -31,6 +31,8 @@ use Rattle.tinkey_plans.specs.Handles.{handles, unless_unfit}
 use Rattle.tinkey_readable.specs.Lying.{LiesBehind}
 use Rattle.tinkey_readable.proofs.LyingLemmas.{loads_reached, loads_there}
 use Rattle.tinkey_readable.proofs.ReachLemmas.{IsDoneAnswer, input_done, input_reached, input_within, unfit_done}
+use Rattle.tinkey_plans.specs.UnfitKeys.{unfit_key}
+use Rattle.tinkey_plans.specs.declared.origin.Origin.TheVariants as origins
 
 -- ---- the template of data keys
 
@@ -78,7 +80,7 @@ aead_scheme served row scheme aead is =
 -- the plan from the template on, and from the keyset on
 abbrev behind_keys : Table → Row → AskedEnvelope → (List ℕ → Plan) → Keys → Plan
 behind_keys table row work next keys =
-    handles table Aead keys (λ fit.
+    handles origins.Keyset table Aead keys (λ fit.
     finds_scheme table row (λ scheme.
     reads_input (envelope_limit work) (λ input.
     envelopes table keys scheme row work input next)))
@@ -116,9 +118,9 @@ used_done table lock name form template work next told done =
     let k = loads_there table lock name form (behind_keys table d.row work next) told done1 in
     let keys = k.0 in
     let l = loads_reached table lock name form keys (behind_keys table d.row work next) told k.1 in
-    let done2 : IsDoneAnswer (answer (unless_unfit (unfit keys Aead table) (behind_fit table d.row work next keys)) told) = ap (λ (a : Answer). a.status) (sym l) ∙ done1 in
-    let fit = unfit_done (unfit keys Aead table) (behind_fit table d.row work next keys) told done2 in
-    let f : answer (unless_unfit (unfit keys Aead table) (behind_fit table d.row work next keys)) told ≡ answer (behind_fit table d.row work next keys) told = ap (λ u. answer (unless_unfit u (behind_fit table d.row work next keys)) told) fit in
+    let done2 : IsDoneAnswer (answer (unless_unfit (unfit_key origins.Keyset keys) (unfit keys Aead table) (behind_fit table d.row work next keys)) told) = ap (λ (a : Answer). a.status) (sym l) ∙ done1 in
+    let fit = unfit_done _ (unfit keys Aead table) (behind_fit table d.row work next keys) told done2 in
+    let f : answer (unless_unfit (unfit_key origins.Keyset keys) (unfit keys Aead table) (behind_fit table d.row work next keys)) told ≡ answer (behind_fit table d.row work next keys) told = ap (λ u. answer (unless_unfit (unfit_key origins.Keyset keys) u (behind_fit table d.row work next keys)) told) fit in
     let done3 : IsDoneAnswer (answer (behind_fit table d.row work next keys) told) = ap (λ (a : Answer). a.status) (sym f) ∙ done2 in
     let s = scheme_done (scheme_at table Aead (url_made d.row)) (behind_scheme table d.row work next keys) told done3 in
     let g : answer (behind_fit table d.row work next keys) told ≡ answer (behind_scheme table d.row work next keys s.0) told = ap (λ o. answer (with_scheme o (behind_scheme table d.row work next keys)) told) s.1 in
@@ -142,7 +144,7 @@ pub used_reached : (table : Table) (lock : Lock) (name : List ℕ) (form : Forma
 used_reached table lock name form template row scheme work next keys told named aead served lies fit fits =
     dek_reached template row (behind_dek table lock name form work next) told named aead
     ∙ loads_reached table lock name form keys (behind_keys table row work next) told lies
-    ∙ ap (λ u. answer (unless_unfit u (behind_fit table row work next keys)) told) fit
+    ∙ ap (λ u. answer (unless_unfit (unfit_key origins.Keyset keys) u (behind_fit table row work next keys)) told) fit
     ∙ ap (λ o. answer (with_scheme o (behind_scheme table row work next keys)) told) served
     ∙ input_reached (envelope_limit work) (λ input. envelopes table keys scheme row work input next) told fits
 

@@ -12,6 +12,7 @@ use Rattle.tinkey_plans.specs.declared.origin.Origin.TheVariants as origins
 use Rattle.tinkey_plans.specs.Plan.{Plan, writes}
 use Rattle.tinkey_plans.specs.Status.{Reports, behind_line, line_of, write_failed, wrote}
 use Rattle.tinkey_plans.specs.Steps.{works_out}
+use Rattle.tinkey_plans.specs.declared.mention.Mention.{Mention}
 use Rattle.tinkey_plans.specs.declared.status.Status.{Status}
 use Rattle.tinkey_readable.proofs.LyingLemmas.{behind_reached}
 use Rattle.tinkey_readable.specs.Hiding.{ListedAlike, ListingHidesKeys, ReportsGoByStatus, TookOf}
@@ -41,15 +42,15 @@ listed_alike table lock behind' in' from told other one two lies there same =
     ∙ listing_hides_keys one two same
     ∙ sym (ap (λ a. a.output) (behind_reached origins.In table behind' from two lists other there))
 
-reported : (s : Status) (old new : SinkState) (before : List ℕ) → old.written ≡ Some before → Reports s old new → TookOf (line_of s ++ behind_line s) old new before
-reported s old new before is (wrote took) = record {
-  front = line_of s ++ behind_line s;
+reported : (mention : Mention) (s : Status) (old new : SinkState) (before : List ℕ) → old.written ≡ Some before → Reports mention s old new → TookOf (line_of s ++ behind_line mention s) old new before
+reported mention s old new before is (wrote took) = record {
+  front = line_of s ++ behind_line mention s;
   rest = [];
-  whole = append-nil (line_of s ++ behind_line s);
-  written = took.written ∙ ap (option_map (λ held. held ++ (line_of s ++ behind_line s))) is;
+  whole = append-nil (line_of s ++ behind_line mention s);
+  written = took.written ∙ ap (option_map (λ held. held ++ (line_of s ++ behind_line mention s))) is;
   all = λ stood. refl;
 }
-reported s old new before is (write_failed rose took) = record {
+reported mention s old new before is (write_failed rose took) = record {
   front = took.front;
   rest = took.rest;
   whole = took.whole;
@@ -58,4 +59,4 @@ reported s old new before is (write_failed rose took) = record {
 }
 
 pub reports_go_by_status : ReportsGoByStatus
-reports_go_by_status s = (line_of s ++ behind_line s, reported s)
+reports_go_by_status mention s = (line_of s ++ behind_line mention s, reported mention s)

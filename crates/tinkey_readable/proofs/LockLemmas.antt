@@ -30,6 +30,7 @@ use Rattle.tinkey_readable.specs.LockedRuns.{GivesUnder, IsDoneUnder, WasDoneUnd
 use Rattle.tinkey_readable.specs.Runs.{Written, bytes_at, keyset_of, read_in}
 use Rattle.tinkey_words.specs.Words.{AskedWork, KeysetFile, primitive_for}
 use Rattle.tinkey_words.specs.declared.words.rows.Format.{Format}
+use Rattle.tinkey_plans.specs.UnfitKeys.{unfit_key}
 
 -- ---- what a text gives is a keyset
 
@@ -65,21 +66,21 @@ pub lock_done : (from : Origin) (table : Table) (name : List ℕ) (form : Format
     → IsDoneAnswer (answer (opens_master from table (record { file = name; form = form }) next) told)
     → OpenedLock table master bytes next told (answer (opens_master from table (record { file = name; form = form }) next) told)
 lock_done from table name form bytes master next told there e done =
-    let fits : Keys → Plan = λ m. handles table Aead m (λ fit. next (Some m)) in
+    let fits : Keys → Plan = λ m. handles from table Aead m (λ fit. next (Some m)) in
     let l = load_done from name form bytes master fits told there e done in
-    let d : IsDoneAnswer (answer (unless_unfit (unfit master Aead table) (next (Some master))) told) = ap (λ (a : Answer). a.status) (sym l) ∙ done in
-    let fit = unfit_done (unfit master Aead table) (next (Some master)) told d in
+    let d : IsDoneAnswer (answer (unless_unfit (unfit_key from master) (unfit master Aead table) (next (Some master))) told) = ap (λ (a : Answer). a.status) (sym l) ∙ done in
+    let fit = unfit_done _ (unfit master Aead table) (next (Some master)) told d in
     record {
       within = load_within from name form bytes fits told there done;
       fit = fit;
-      goes_on = l ∙ ap (λ u. answer (unless_unfit u (next (Some master))) told) fit;
+      goes_on = l ∙ ap (λ u. answer (unless_unfit (unfit_key from master) u (next (Some master))) told) fit;
     }
 
 pub lock_reached : (from : Origin) (table : Table) (name : List ℕ) (form : Format) (bytes : List ℕ) (master : Keys) (next : Option Keys → Plan) (told : Told) → map.get told.files name ≡ Some bytes → read_in form bytes ≡ Some master → length bytes ≤ keyset_limit → unfit master Aead table ≡ None
     → answer (opens_master from table (record { file = name; form = form }) next) told ≡ answer (next (Some master)) told
 lock_reached from table name form bytes master next told there e within fit =
-    load_reached from name form bytes master (λ m. handles table Aead m (λ fit. next (Some m))) told there e within
-    ∙ ap (λ u. answer (unless_unfit u (next (Some master))) told) fit
+    load_reached from name form bytes master (λ m. handles from table Aead m (λ fit. next (Some m))) told there e within
+    ∙ ap (λ u. answer (unless_unfit (unfit_key from master) u (next (Some master))) told) fit
 
 pub under_done : (from : Origin) (master : Keys) (place : KeysetFile) (bytes : List ℕ) (keys : Keys) (next : Keys → Plan) (told : Told) → bytes_at place.file told.files told.input ≡ Some bytes → unwrap_of master standard_table bytes (is_json place.form) ≡ Ok keys
     → IsDoneAnswer (answer (takes_under from standard_table (Some master) place next) told)
@@ -115,7 +116,7 @@ locked_reached master text over keys lock name next told opens read lies gives w
 
 -- the steps behind the keyset
 abbrev uses : AskedWork → (List ℕ → Plan) → Keys → Plan
-uses work next keys = handles standard_table (primitive_for work) keys (λ fit. work_behind standard_table keys work next)
+uses work next keys = handles origins.Keyset standard_table (primitive_for work) keys (λ fit. work_behind standard_table keys work next)
 
 -- work over such a keyset was done
 pub started_under : (work : AskedWork) (master text : Written) (over old : Keys) (told : Told) (output : List ℕ) → keyset_of master ≡ Some over → GivesUnder over text old → WasDoneUnder work master text told output → Started work old told output
@@ -134,7 +135,7 @@ finished_under work master text keys input output serves fits gives told lock na
     let next = puts_output out in
     let left = record told { input = [] } in
     let r = locked_reached master text serves.over keys lock name (uses work next) told opens serves.opens.read lies serves.gives serves.opens.within serves.opens.fit serves.within
-    ∙ ap (λ u. answer (unless_unfit u (work_behind standard_table keys work next)) told) serves.fit
+    ∙ ap (λ u. answer (unless_unfit (unfit_key origins.Keyset keys) u (work_behind standard_table keys work next)) told) serves.fit
     ∙ input_reached (limit_for work) (λ input. works standard_table keys work input next) told (subst (λ i. length i ≤ limit_for work) (sym same) fits)
     ∙ ap (λ i. answer (works standard_table keys work i next) left) same in
     let g = gives left in

@@ -43,34 +43,35 @@ use Rattle.tinkey_readable.proofs.LockLemmas.{unwrapped_is_keyset}
 use Rattle.tinkey_readable.proofs.ReachLemmas.{IsDoneAnswer, behind, bytes_reached, keyset_reached, loaded, loaded_within, unfit_done, went_on, went_test}
 use Rattle.tinkey_readable.proofs.RunLemmas.{read_faultless, read_keyset}
 use Rattle.tinkey_readable.proofs.WrappedRunLemmas.{within_done}
+use Rattle.tinkey_plans.specs.UnfitKeys.{unfit_key}
 
 -- ---- bytes
 
 bytes_there : (from : Origin) (limit : ℕ) (file : Option (List ℕ)) (next : List ℕ → Plan) (told : Told) → IsDoneAnswer (answer (takes_bytes from limit file next) told) → (bytes : List ℕ) × (bytes_at file told.files told.input ≡ Some bytes) × (length bytes ≤ limit)
 bytes_there from limit None next told done =
-    (told.input, refl, leb-true (length told.input) limit (went_test (nat_le (length told.input) limit) (answer (next told.input) (record told { input = [] })) (record (refused told status.KeysetTooLong) { input = Some (drop (limit + 1) told.input) }) (λ h. absurd (cc)) done))
+    (told.input, refl, leb-true (length told.input) limit (went_test (nat_le (length told.input) limit) (answer (next told.input) (record told { input = [] })) (record (refused told (status.KeysetTooLong origins.StandardInput)) { input = Some (drop (limit + 1) told.input) }) (λ h. absurd (cc)) done))
 bytes_there from limit (Some name) next told done = by (map.get told.files name) refl done
   where
     go : List ℕ → Answer
     go b = answer (next b) told
 
-    by : (found : Option (List ℕ)) → map.get told.files name ≡ found → IsDoneAnswer (load_answer found limit (refused told (status.InMissing from)) (refused told status.KeysetTooLong) go) → (bytes : List ℕ) × (map.get told.files name ≡ Some bytes) × (length bytes ≤ limit)
+    by : (found : Option (List ℕ)) → map.get told.files name ≡ found → IsDoneAnswer (load_answer found limit (refused told (status.InMissing from)) (refused told (status.KeysetTooLong from)) go) → (bytes : List ℕ) × (map.get told.files name ≡ Some bytes) × (length bytes ≤ limit)
     by None is gone = absurd (cc)
-    by (Some bytes) is gone = (bytes, is, loaded_within (map.get told.files name) bytes limit (refused told (status.InMissing from)) (refused told status.KeysetTooLong) go is (λ h. absurd (cc)) done)
+    by (Some bytes) is gone = (bytes, is, loaded_within (map.get told.files name) bytes limit (refused told (status.InMissing from)) (refused told (status.KeysetTooLong from)) go is (λ h. absurd (cc)) done)
 
 bytes_taken : (from : Origin) (limit : ℕ) (file : Option (List ℕ)) (bytes : List ℕ) (next : List ℕ → Plan) (told : Told) → bytes_at file told.files told.input ≡ Some bytes → length bytes ≤ limit → answer (takes_bytes from limit file next) told ≡ answer (next bytes) (behind file told)
 bytes_taken from limit (Some name) bytes next told there within =
-    loaded (map.get told.files name) bytes limit (refused told (status.InMissing from)) (refused told status.KeysetTooLong) (λ b. answer (next b) told) there within
+    loaded (map.get told.files name) bytes limit (refused told (status.InMissing from)) (refused told (status.KeysetTooLong from)) (λ b. answer (next b) told) there within
 bytes_taken from limit None bytes next told there within =
     let same : told.input ≡ bytes = same_Some _ _ there in
     let short = subst (λ b. length b ≤ limit) (sym same) within in
     let test : nat_le (length told.input) limit ≡ true = grind (arith, nat_tests, short) in
-    went_on (nat_le (length told.input) limit) (answer (next told.input) (record told { input = [] })) (record (refused told status.KeysetTooLong) { input = Some (drop (limit + 1) told.input) }) test
+    went_on (nat_le (length told.input) limit) (answer (next told.input) (record told { input = [] })) (record (refused told (status.KeysetTooLong origins.StandardInput)) { input = Some (drop (limit + 1) told.input) }) test
     ∙ ap (λ b. answer (next b) (record told { input = [] })) same
 
 -- ---- a keyset
 
-not_faulty : (from : Origin) (b : Bool) (fault : KeysetRefusal) (told : Told) → IsDoneAnswer (answer (if b then ends (status.KeysetLocked fault from) tt else ends (status.Keyset fault) tt) told) → ⊥
+not_faulty : (from : Origin) (b : Bool) (fault : KeysetRefusal) (told : Told) → IsDoneAnswer (answer (if b then ends (status.KeysetLocked fault from) tt else ends (status.Keyset fault from) tt) told) → ⊥
 not_faulty from true fault told done = cc
 not_faulty from false fault told done = cc
 
@@ -93,16 +94,16 @@ read_there from formats.Binary bytes next told done = by (reads_binary bytes) do
     by (Err (binary.Wire at)) done = absurd (not_cut from (begins_of bytes) (is_wrapped_binary bytes false) at told done)
     by (Err (binary.Fault fault)) done = absurd (not_faulty from (is_wrapped_binary bytes true) fault told done)
 
-not_unopened : (clear : Bool) (sealer : Sealer) (told : Told) → IsDoneAnswer (answer (ends_unopened clear sealer) told) → ⊥
-not_unopened true sealer told done = cc
-not_unopened false sealer told done = cc
+not_unopened : (from : Origin) (clear : Bool) (sealer : Sealer) (told : Told) → IsDoneAnswer (answer (ends_unopened from clear sealer) told) → ⊥
+not_unopened from true sealer told done = cc
+not_unopened from false sealer told done = cc
 
 given_there : (from : Origin) (begins : Begins) (clear' : Bool) (sealer : Sealer) (r : Result Keys Refusal) (next : Keys → Plan) (told : Told) → IsDoneAnswer (answer (with_unwrapped from begins clear' sealer r next) told) → (keys : Keys) × (r ≡ Ok keys)
 given_there from begins clear' sealer (Ok keys) next told done = (keys, refl)
 given_there from begins clear' sealer (Err (OuterWire at)) next told done = absurd (cc)
 given_there from begins clear' sealer (Err NotJson) next told done = absurd (cc)
 given_there from begins clear' sealer (Err Member) next told done = absurd (cc)
-given_there from begins clear' sealer (Err NotOpened) next told done = absurd (not_unopened clear' sealer told done)
+given_there from begins clear' sealer (Err NotOpened) next told done = absurd (not_unopened _ clear' sealer told done)
 given_there from begins clear' sealer (Err (InnerWire at)) next told done = absurd (cc)
 given_there from begins clear' sealer (Err (Fault fault)) next told done = absurd (cc)
 
@@ -137,15 +138,15 @@ takes_reached from table master place keys next told lies =
 abbrev master_place : Master → KeysetFile
 master_place lock = record { file = Some lock.file; form = lock.form }
 
-abbrev fits_master : Table → (Option Keys → Plan) → Keys → Plan
-fits_master table next over = handles table Aead over (λ fit. next (Some over))
+abbrev fits_master : Origin → Table → (Option Keys → Plan) → Keys → Plan
+fits_master from table next over = handles from table Aead over (λ fit. next (Some over))
 
 master_there : (from : Origin) (table : Table) (lock : Master) (next : Option Keys → Plan) (told : Told) → IsDoneAnswer (answer (opens_master from table lock next) told) → (over : Keys) × OpensMaster table lock told over
 master_there from table lock next told done =
-    let k = takes_there from table None (master_place lock) (fits_master table next) told done in
-    let t = takes_reached from table None (master_place lock) k.0 (fits_master table next) told k.1 in
-    let d : IsDoneAnswer (answer (unless_unfit (unfit k.0 Aead table) (next (Some k.0))) told) = ap (λ (a : Answer). a.status) (sym t) ∙ done in
-    (k.0, record { lies = k.1; fit = unfit_done (unfit k.0 Aead table) (next (Some k.0)) told d })
+    let k = takes_there from table None (master_place lock) (fits_master from table next) told done in
+    let t = takes_reached from table None (master_place lock) k.0 (fits_master from table next) told k.1 in
+    let d : IsDoneAnswer (answer (unless_unfit (unfit_key from k.0) (unfit k.0 Aead table) (next (Some k.0))) told) = ap (λ (a : Answer). a.status) (sym t) ∙ done in
+    (k.0, record { lies = k.1; fit = unfit_done _ (unfit k.0 Aead table) (next (Some k.0)) told d })
 
 pub lock_there : (table : Table) (lock : Lock) (next : Option Keys → Plan) (told : Told) → IsDoneAnswer (answer (opens_lock table lock next) told) → (master : Option Keys) × OpensLock table lock told master
 lock_there table None next told done = (None, tt)
@@ -153,8 +154,8 @@ lock_there table (Some lock) next told done = let m = master_there origins.Maste
 
 master_reached : (from : Origin) (table : Table) (lock : Master) (over : Keys) (next : Option Keys → Plan) (told : Told) → OpensMaster table lock told over → answer (opens_master from table lock next) told ≡ answer (next (Some over)) told
 master_reached from table lock over next told opens =
-    takes_reached from table None (master_place lock) over (fits_master table next) told opens.lies
-    ∙ ap (λ u. answer (unless_unfit u (next (Some over))) told) opens.fit
+    takes_reached from table None (master_place lock) over (fits_master from table next) told opens.lies
+    ∙ ap (λ u. answer (unless_unfit (unfit_key from over) u (next (Some over))) told) opens.fit
 
 pub lock_reached : (table : Table) (lock : Lock) (master : Option Keys) (next : Option Keys → Plan) (told : Told) → OpensLock table lock told master → answer (opens_lock table lock next) told ≡ answer (next master) told
 lock_reached table None None next told opens = refl
@@ -212,7 +213,7 @@ name_free (Some name) bytes told done = by (map.get told.files name) done
 fits_within : (limit : ℕ) (next : List ℕ → Plan) (bytes : List ℕ) (told : Told) → length bytes ≤ limit → answer (within_limit limit next bytes) told ≡ answer (next bytes) told
 fits_within limit next bytes told within =
     let test : nat_le (length bytes) limit ≡ true = grind (arith, nat_tests, within) in
-    ap (λ (b : Bool). answer (if b then next bytes else ends status.KeysetTooLong tt) told) test
+    ap (λ (b : Bool). answer (if b then next bytes else ends status.KeysetOutgrown tt) told) test
 
 abbrev wrapped_so : (List ℕ → Plan) → Told → Option Wrapped → Answer
 wrapped_so next told o =

@@ -31,6 +31,8 @@ use Rattle.tinkey_plans.specs.Steps.{keyset_limit, keyset_in, with_keyset, with_
 use Rattle.tinkey_plans.specs.Handles.{handles, unless_unfit}
 use Rattle.tinkey_plans.specs.Using.{limit_for, use_output, works}
 use Rattle.tinkey_words.specs.Words.{AskedEdit, AskedWork, KeysetFile, primitive_for}
+use Rattle.tinkey_plans.specs.UnfitKeys.{unfit_key}
+use Rattle.tinkey_plans.specs.declared.unfit.UnfitKey.{UnfitKey}
 
 abbrev pub IsDoneAnswer : Answer → Type 0
 IsDoneAnswer a = a.status ≡ status.Done
@@ -76,19 +78,19 @@ loaded_within found bytes limit absent long next is other done =
 pub load_reached : (from : Origin) (name : List ℕ) (form : Format) (bytes : List ℕ) (keys : Keys) (next : Keys → Plan) (told : Told) → map.get told.files name ≡ Some bytes → read_in form bytes ≡ Some keys → length bytes ≤ keyset_limit
     → answer (loads_keyset from name form next) told ≡ answer (next keys) told
 load_reached from name form bytes keys next told there e within =
-    loaded (map.get told.files name) bytes keyset_limit (refused told (status.InMissing from)) (refused told status.KeysetTooLong) (λ b. answer (keyset_in from form b next) told) there within
+    loaded (map.get told.files name) bytes keyset_limit (refused told (status.InMissing from)) (refused told (status.KeysetTooLong from)) (λ b. answer (keyset_in from form b next) told) there within
     ∙ keyset_reached from form bytes keys next told e
 
 pub load_done : (from : Origin) (name : List ℕ) (form : Format) (bytes : List ℕ) (keys : Keys) (next : Keys → Plan) (told : Told) → map.get told.files name ≡ Some bytes → read_in form bytes ≡ Some keys → IsDoneAnswer (answer (loads_keyset from name form next) told)
     → answer (loads_keyset from name form next) told ≡ answer (next keys) told
 load_done from name form bytes keys next told there e done =
-    loaded_done (map.get told.files name) bytes keyset_limit (refused told (status.InMissing from)) (refused told status.KeysetTooLong) (λ b. answer (keyset_in from form b next) told) there (λ h. absurd (cc)) done
+    loaded_done (map.get told.files name) bytes keyset_limit (refused told (status.InMissing from)) (refused told (status.KeysetTooLong from)) (λ b. answer (keyset_in from form b next) told) there (λ h. absurd (cc)) done
     ∙ keyset_reached from form bytes keys next told e
 
 -- what was loaded is within the limit
 pub load_within : (from : Origin) (name : List ℕ) (form : Format) (bytes : List ℕ) (next : Keys → Plan) (told : Told) → map.get told.files name ≡ Some bytes → IsDoneAnswer (answer (loads_keyset from name form next) told) → length bytes ≤ keyset_limit
 load_within from name form bytes next told there done =
-    loaded_within (map.get told.files name) bytes keyset_limit (refused told (status.InMissing from)) (refused told status.KeysetTooLong) (λ b. answer (keyset_in from form b next) told) there (λ h. absurd (cc)) done
+    loaded_within (map.get told.files name) bytes keyset_limit (refused told (status.InMissing from)) (refused told (status.KeysetTooLong from)) (λ b. answer (keyset_in from form b next) told) there (λ h. absurd (cc)) done
 
 -- the told that is left behind a keyset: the input is gone where that was the keyset
 abbrev pub behind : Option (List ℕ) → Told → Told
@@ -98,7 +100,7 @@ behind None told = record told { input = [] }
 read_done : (form : Format) (keys : Keys) (next : Keys → Plan) (told : Told) → read_in form told.input ≡ Some keys → IsDoneAnswer (answer (reads_keyset form next) told)
     → answer (reads_keyset form next) told ≡ answer (next keys) (record told { input = [] })
 read_done form keys next told e done =
-    went_done (nat_le (length told.input) keyset_limit) (answer (keyset_in origins.StandardInput form told.input next) (record told { input = [] })) (record (refused told status.KeysetTooLong) { input = Some (drop (keyset_limit + 1) told.input) }) (λ h. absurd (cc)) done
+    went_done (nat_le (length told.input) keyset_limit) (answer (keyset_in origins.StandardInput form told.input next) (record told { input = [] })) (record (refused told (status.KeysetTooLong origins.StandardInput)) { input = Some (drop (keyset_limit + 1) told.input) }) (λ h. absurd (cc)) done
     ∙ keyset_reached origins.StandardInput form told.input keys next (record told { input = [] }) e
 
 pub taken_done : (place : KeysetFile) (bytes : List ℕ) (keys : Keys) (next : Keys → Plan) (told : Told) → bytes_at place.file told.files told.input ≡ Some bytes → read_in place.form bytes ≡ Some keys → IsDoneAnswer (answer (takes_keyset place next) told)
@@ -117,7 +119,7 @@ taken_within place bytes next told there done = by_file place.file there done
     by_file (Some name) there done = load_within origins.In name place.form bytes next told there done
     by_file None there done =
         let same : told.input ≡ bytes = cc in
-        let all = went_test (nat_le (length told.input) keyset_limit) (answer (keyset_in origins.StandardInput place.form told.input next) (record told { input = [] })) (record (refused told status.KeysetTooLong) { input = Some (drop (keyset_limit + 1) told.input) }) (λ h. absurd (cc)) done in
+        let all = went_test (nat_le (length told.input) keyset_limit) (answer (keyset_in origins.StandardInput place.form told.input next) (record told { input = [] })) (record (refused told (status.KeysetTooLong origins.StandardInput)) { input = Some (drop (keyset_limit + 1) told.input) }) (λ h. absurd (cc)) done in
         subst (λ b. length b ≤ keyset_limit) same (leb-true (length told.input) keyset_limit all)
 
 -- ---- an edit
@@ -193,7 +195,7 @@ put_done out keys told done = by (nat_le (length bytes) keyset_limit) refl done
     bytes = written_in out.form keys
 
     goes : Bool → Answer
-    goes b = answer (if b then puts out.file bytes else ends status.KeysetTooLong tt) told
+    goes b = answer (if b then puts out.file bytes else ends status.KeysetOutgrown tt) told
 
     by : (b : Bool) → nat_le (length bytes) keyset_limit ≡ b → IsDoneAnswer (goes b) → PutOut out keys told
     by true is done = record {
@@ -204,9 +206,9 @@ put_done out keys told done = by (nat_le (length bytes) keyset_limit) refl done
 
 -- ---- the keys of a keyset
 
-pub unfit_done : (u : Option (ℕ × Unfit)) (next : Plan) (told : Told) → IsDoneAnswer (answer (unless_unfit u next) told) → u ≡ None
-unfit_done None next told done = refl
-unfit_done (Some found) next told done = absurd (cc)
+pub unfit_done : (name : ℕ → UnfitKey) (u : Option (ℕ × Unfit)) (next : Plan) (told : Told) → IsDoneAnswer (answer (unless_unfit name u next) told) → u ≡ None
+unfit_done name None next told done = refl
+unfit_done name (Some found) next told done = absurd (cc)
 
 -- the whole input, within a limit
 pub input_done : (limit : ℕ) (next : List ℕ → Plan) (told : Told) → IsDoneAnswer (answer (reads_input limit next) told) → answer (reads_input limit next) told ≡ answer (next told.input) (record told { input = [] })
@@ -231,12 +233,12 @@ pub record UsedKeys (table : Table) (keys : Keys) (work : AskedWork) (next : Lis
   pub goes_on : a ≡ answer (works table keys work told.input next) (record told { input = [] })
 
 -- behind the keyset
-pub use_done : (table : Table) (work : AskedWork) (next : List ℕ → Plan) (keys : Keys) (told : Told) → IsDoneAnswer (answer (handles table (primitive_for work) keys (λ fit. work_behind table keys work next)) told)
-    → UsedKeys table keys work next told (answer (handles table (primitive_for work) keys (λ fit. work_behind table keys work next)) told)
+pub use_done : (table : Table) (work : AskedWork) (next : List ℕ → Plan) (keys : Keys) (told : Told) → IsDoneAnswer (answer (handles origins.Keyset table (primitive_for work) keys (λ fit. work_behind table keys work next)) told)
+    → UsedKeys table keys work next told (answer (handles origins.Keyset table (primitive_for work) keys (λ fit. work_behind table keys work next)) told)
 use_done table work next keys told done =
-    let d : IsDoneAnswer (answer (unless_unfit (unfit keys (primitive_for work) table) (work_behind table keys work next)) told) = done in
-    let fit = unfit_done (unfit keys (primitive_for work) table) (work_behind table keys work next) told d in
-    let f : answer (unless_unfit (unfit keys (primitive_for work) table) (work_behind table keys work next)) told ≡ answer (work_behind table keys work next) told = ap (λ u. answer (unless_unfit u (work_behind table keys work next)) told) fit in
+    let d : IsDoneAnswer (answer (unless_unfit (unfit_key origins.Keyset keys) (unfit keys (primitive_for work) table) (work_behind table keys work next)) told) = done in
+    let fit = unfit_done _ (unfit keys (primitive_for work) table) (work_behind table keys work next) told d in
+    let f : answer (unless_unfit (unfit_key origins.Keyset keys) (unfit keys (primitive_for work) table) (work_behind table keys work next)) told ≡ answer (work_behind table keys work next) told = ap (λ u. answer (unless_unfit (unfit_key origins.Keyset keys) u (work_behind table keys work next)) told) fit in
     record {
       fit = fit;
       fits = input_within (limit_for work) (λ input. works table keys work input next) told (ap (λ (a : Answer). a.status) (sym f) ∙ d);
@@ -246,17 +248,17 @@ use_done table work next keys told done =
 pub used_done : (table : Table) (name : List ℕ) (form : Format) (work : AskedWork) (next : List ℕ → Plan) (bytes : List ℕ) (keys : Keys) (told : Told) → map.get told.files name ≡ Some bytes → read_in form bytes ≡ Some keys → IsDoneAnswer (answer (use_output table None name form work next) told)
     → UsedKeys table keys work next told (answer (use_output table None name form work next) told)
 used_done table name form work next bytes keys told there e done =
-    let l = load_done origins.Keyset name form bytes keys (λ k. handles table (primitive_for work) k (λ fit. work_behind table k work next)) told there e done in
+    let l = load_done origins.Keyset name form bytes keys (λ k. handles origins.Keyset table (primitive_for work) k (λ fit. work_behind table k work next)) told there e done in
     let u = use_done table work next keys told (ap (λ (a : Answer). a.status) (sym l) ∙ done) in
     record { fit = u.fit; fits = u.fits; goes_on = l ∙ u.goes_on }
 
 pub used_within : (table : Table) (name : List ℕ) (form : Format) (work : AskedWork) (next : List ℕ → Plan) (bytes : List ℕ) (told : Told) → map.get told.files name ≡ Some bytes → IsDoneAnswer (answer (use_output table None name form work next) told) → length bytes ≤ keyset_limit
-used_within table name form work next bytes told there done = load_within origins.Keyset name form bytes (λ k. handles table (primitive_for work) k (λ fit. work_behind table k work next)) told there done
+used_within table name form work next bytes told there done = load_within origins.Keyset name form bytes (λ k. handles origins.Keyset table (primitive_for work) k (λ fit. work_behind table k work next)) told there done
 
 pub used_reached : (table : Table) (name : List ℕ) (form : Format) (work : AskedWork) (next : List ℕ → Plan) (bytes : List ℕ) (keys : Keys) (told : Told) → map.get told.files name ≡ Some bytes → read_in form bytes ≡ Some keys → length bytes ≤ keyset_limit
     → unfit keys (primitive_for work) table ≡ None → length told.input ≤ limit_for work
     → answer (use_output table None name form work next) told ≡ answer (works table keys work told.input next) (record told { input = [] })
 used_reached table name form work next bytes keys told there e within fit fits =
-    load_reached origins.Keyset name form bytes keys (λ k. handles table (primitive_for work) k (λ x. work_behind table k work next)) told there e within
-    ∙ ap (λ u. answer (unless_unfit u (work_behind table keys work next)) told) fit
+    load_reached origins.Keyset name form bytes keys (λ k. handles origins.Keyset table (primitive_for work) k (λ x. work_behind table k work next)) told there e within
+    ∙ ap (λ u. answer (unless_unfit (unfit_key origins.Keyset keys) u (work_behind table keys work next)) told) fit
     ∙ input_reached (limit_for work) (λ input. works table keys work input next) told fits

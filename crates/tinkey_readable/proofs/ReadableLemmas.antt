@@ -39,6 +39,7 @@ use Rattle.tinkey_words.specs.Words.{Lock, Master, KeysetFile}
 use Rattle.tinkey_readable.specs.Lying.{GivesKeyset, MasterThere}
 use Rattle.tinkey_readable.proofs.LyingLemmas.{given_is_keyset, keyset_given}
 use Rattle.tinkey_readable.proofs.ReachLemmas.{keyset_reached}
+use Rattle.tinkey_plans.specs.UnfitKeys.{unfit_key}
 
 -- a stated status is no fault of the entropy or of the sink
 not_fault : (s : Status) → IsStated s → s ≡ status.EntropyFault → ⊥
@@ -90,7 +91,7 @@ files_nothing name bytes told = by (map.get told.files name)
 within_nothing : (limit : ℕ) (next : List ℕ → Plan) (bytes : List ℕ) (told : Told) → (answer (next bytes) told).output ≡ [] → (answer (within_limit limit next bytes) told).output ≡ []
 within_nothing limit next bytes told nothing = by (nat_le (length bytes) limit)
   where
-    by : (b : Bool) → (answer (if b then next bytes else ends status.KeysetTooLong tt) told).output ≡ []
+    by : (b : Bool) → (answer (if b then next bytes else ends status.KeysetOutgrown tt) told).output ≡ []
     by true = nothing
     by false = refl
 
@@ -174,12 +175,12 @@ text_replied : SessionOpens → SessionDopens → SessionOpensPresent → Sessio
     → IsAnswer (answer (takes_under origins.Keyset table master (record { file = Some name; form = form }) (holds_session table master out)) told) old s new → HasReplies table keys told old s new
 text_replied opens dopens opens_present dopens_present verifies law fit table master name form out bytes keys told old s new there gives stated a = by (nat_le (length bytes) (limit_under master)) refl (rw there at a)
   where
-    by : (t : Bool) → nat_le (length bytes) (limit_under master) ≡ t → IsAnswer (if t then answer (keyset_under origins.Keyset table master form bytes (holds_session table master out)) told else refused told status.KeysetTooLong) old s new → HasReplies table keys told old s new
+    by : (t : Bool) → nat_le (length bytes) (limit_under master) ≡ t → IsAnswer (if t then answer (keyset_under origins.Keyset table master form bytes (holds_session table master out)) told else refused told (status.KeysetTooLong origins.Keyset)) old s new → HasReplies table keys told old s new
     by true is a =
         replied opens dopens opens_present dopens_present verifies law table master out keys told old s new (given_is_keyset fit table master form bytes keys gives (grind (arith, nat_tests, is))) stated
         (subst (λ x. IsAnswer x old s new) (keyset_given origins.Keyset table master form bytes keys (holds_session table master out) told gives) a)
     by false is a =
-        none_replied table keys told old s new (λ h. let clash : status.Done ≡ status.KeysetTooLong = sym h ∙ a.status in absurd (cc)) (not_unwritten s stated) a.output
+        none_replied table keys told old s new (λ h. let clash : status.Done ≡ status.KeysetTooLong origins.Keyset = sym h ∙ a.status in absurd (cc)) (not_unwritten s stated) a.output
 
 -- behind a lock
 lock_replied : (table : Table) (lock : Master) (bytes : List ℕ) (over : Keys) (next : Option Keys → Plan) (keys : Keys) (told : Told) (old : World) (s : Status) (new : World)
@@ -188,18 +189,18 @@ lock_replied : (table : Table) (lock : Master) (bytes : List ℕ) (over : Keys) 
 lock_replied table lock bytes over next keys told old s new there read stated a later = by (nat_le (length bytes) keyset_limit) (rw there at a)
   where
     fits : Keys → Plan
-    fits m = handles table Aead m (λ fit. next (Some m))
+    fits m = handles origins.Master table Aead m (λ fit. next (Some m))
 
     none : (other : Status) → (other ≡ status.Done → ⊥) → s ≡ other → Took old.sink new.sink [] → HasReplies table keys told old s new
     none other undone is took = none_replied table keys told old s new (λ h. undone (sym is ∙ h)) (not_unwritten s stated) took
 
-    by_fit : (u : Option (ℕ × Unfit)) → IsAnswer (answer (unless_unfit u (next (Some over))) told) old s new → HasReplies table keys told old s new
+    by_fit : (u : Option (ℕ × Unfit)) → IsAnswer (answer (unless_unfit (unfit_key origins.Master over) u (next (Some over))) told) old s new → HasReplies table keys told old s new
     by_fit None a = later a
-    by_fit (Some found) a = none (status.Refused (cannot_serve found.0 found.1)) (λ h. absurd (cc)) a.status a.output
+    by_fit (Some found) a = none (status.Unfit (cannot_serve found.0 found.1) (unfit_key origins.Master over found.0)) (λ h. absurd (cc)) a.status a.output
 
-    by : (t : Bool) → IsAnswer (if t then answer (keyset_in origins.Master lock.form bytes fits) told else refused told status.KeysetTooLong) old s new → HasReplies table keys told old s new
+    by : (t : Bool) → IsAnswer (if t then answer (keyset_in origins.Master lock.form bytes fits) told else refused told (status.KeysetTooLong origins.Master)) old s new → HasReplies table keys told old s new
     by true a = by_fit (unfit over Aead table) (subst (λ x. IsAnswer x old s new) (keyset_reached origins.Master lock.form bytes over fits told read) a)
-    by false a = none status.KeysetTooLong (λ h. absurd (cc)) a.status a.output
+    by false a = none (status.KeysetTooLong origins.Master) (λ h. absurd (cc)) a.status a.output
 
 pub readable_answer : SessionOpens → SessionDopens → SessionOpensPresent → SessionDopensPresent → SessionVerifies → TalkIsTurns → ReadKeysFit → AnswersAreReadable
 readable_answer opens dopens opens_present dopens_present verifies law fit table words old s new stated answers = record {

@@ -26,17 +26,20 @@ use Rattle.tinkey_readable.specs.Runs.{IsFree, bytes_at}
 use Rattle.tinkey_readable.proofs.LyingLemmas.{loads_reached, loads_there}
 use Rattle.tinkey_readable.proofs.PassLemmas.{IsPutAt, begins_reached, passed, passes_done, passes_put, was_passed}
 use Rattle.tinkey_readable.proofs.ReachLemmas.{IsDoneAnswer}
+use Rattle.tinkey_plans.specs.UnfitKeys.{unfit_key}
+use Rattle.tinkey_plans.specs.declared.unfit.UnfitKey.{UnfitKey}
+use Rattle.tinkey_plans.specs.declared.origin.Origin.TheVariants as origins
 
 -- ---- the keys of a keyset
 
 -- the plan behind a keyset
 abbrev behind_keyset : (KeysForStreams → Plan) → Keys → Plan
-behind_keyset next keys = allocates (unless_unfit (stream_unfit keys) (with_keys (keys_for keys) next))
+behind_keyset next keys = allocates (unless_unfit (unfit_key origins.Keyset keys) (stream_unfit keys) (with_keys (keys_for keys) next))
 
-pub fit_done : (unfit : Option (ℕ × StreamUnfit)) (next : Plan) (told : Told) → IsDoneAnswer (answer (unless_unfit unfit next) told) → unfit ≡ None
-fit_done None next told done = refl
-fit_done (Some (i, not_stream)) next told done = absurd (cc)
-fit_done (Some (i, bad_key rule)) next told done = absurd (cc)
+pub fit_done : (name : ℕ → UnfitKey) (unfit : Option (ℕ × StreamUnfit)) (next : Plan) (told : Told) → IsDoneAnswer (answer (unless_unfit name unfit next) told) → unfit ≡ None
+fit_done name None next told done = refl
+fit_done name (Some (i, not_stream)) next told done = absurd (cc)
+fit_done name (Some (i, bad_key rule)) next told done = absurd (cc)
 
 pub keys_done : (found : Option KeysForStreams) (next : KeysForStreams → Plan) (told : Told) → IsDoneAnswer (answer (with_keys found next) told) → (keys : KeysForStreams) × (found ≡ Some keys)
 keys_done (Some keys) next told done = (keys, refl)
@@ -59,7 +62,7 @@ pub keys_reached : (table : Table) (lock : Lock) (name : List ℕ) (form : Forma
     → stream_unfit keys ≡ None → primary_key keys ≡ Some primary → answer (loads_stream_keys table lock name form next) told ≡ answer (next (with_primary keys primary)) told
 keys_reached table lock name form keys primary next told lies fit is =
     loads_reached table lock name form keys (behind_keyset next) told lies
-    ∙ ap (λ u. answer (unless_unfit u (with_keys (keys_for keys) next)) told) fit
+    ∙ ap (λ u. answer (unless_unfit (unfit_key origins.Keyset keys) u (with_keys (keys_for keys) next)) told) fit
     ∙ ap (λ o. answer (with_keys (option_map (with_primary keys) o) next) told) is
 
 pub keys_loaded : (table : Table) (lock : Lock) (name : List ℕ) (form : Format) (next : KeysForStreams → Plan) (told : Told) → IsDoneAnswer (answer (loads_stream_keys table lock name form next) told)
@@ -68,9 +71,9 @@ keys_loaded table lock name form next told done =
     let loaded = loads_there table lock name form (behind_keyset next) told done in
     let keys = loaded.0 in
     let l = loads_reached table lock name form keys (behind_keyset next) told loaded.1 in
-    let done1 : IsDoneAnswer (answer (unless_unfit (stream_unfit keys) (with_keys (keys_for keys) next)) told) = ap (λ (a : Answer). a.status) (sym l) ∙ done in
-    let fit = fit_done (stream_unfit keys) (with_keys (keys_for keys) next) told done1 in
-    let f : answer (unless_unfit (stream_unfit keys) (with_keys (keys_for keys) next)) told ≡ answer (with_keys (keys_for keys) next) told = ap (λ u. answer (unless_unfit u (with_keys (keys_for keys) next)) told) fit in
+    let done1 : IsDoneAnswer (answer (unless_unfit (unfit_key origins.Keyset keys) (stream_unfit keys) (with_keys (keys_for keys) next)) told) = ap (λ (a : Answer). a.status) (sym l) ∙ done in
+    let fit = fit_done _ (stream_unfit keys) (with_keys (keys_for keys) next) told done1 in
+    let f : answer (unless_unfit (unfit_key origins.Keyset keys) (stream_unfit keys) (with_keys (keys_for keys) next)) told ≡ answer (with_keys (keys_for keys) next) told = ap (λ u. answer (unless_unfit (unfit_key origins.Keyset keys) u (with_keys (keys_for keys) next)) told) fit in
     let k = keys_done (keys_for keys) next told (ap (λ (a : Answer). a.status) (sym f) ∙ done1) in
     let primary = map_some (with_primary keys) (primary_key keys) k.0 k.1 in
     record {

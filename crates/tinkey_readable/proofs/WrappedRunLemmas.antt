@@ -40,6 +40,7 @@ use Rattle.tinkey_readable.specs.Runs.{DrawsBytes, HoldsBytes, IsFree, IsWithinI
 use Rattle.tinkey_readable.proofs.ReachLemmas.{IsDoneAnswer, behind, bytes_put, bytes_reached, load_done, load_within, loaded, loaded_done, put_done, taken_done, taken_within, unfit_done, went_done, went_on}
 use Rattle.tinkey_readable.proofs.RunLemmas.{each_of, json_back, kept, primary_word, read_faultless}
 use Rattle.tinkey_readable.proofs.WrittenBytesLemmas.{written_bytes}
+use Rattle.tinkey_plans.specs.UnfitKeys.{unfit_key}
 
 -- ---- steps that went on
 
@@ -48,7 +49,7 @@ pub within_done : (limit : ℕ) (next : List ℕ → Plan) (bytes : List ℕ) (t
 within_done limit next bytes told done = by (nat_le (length bytes) limit) refl done
   where
     goes : Bool → Answer
-    goes b = answer (if b then next bytes else ends status.KeysetTooLong tt) told
+    goes b = answer (if b then next bytes else ends status.KeysetOutgrown tt) told
 
     by : (b : Bool) → nat_le (length bytes) limit ≡ b → IsDoneAnswer (goes b) → (length bytes ≤ limit) × (answer (within_limit limit next bytes) told ≡ answer (next bytes) told)
     by true is done = (grind (arith, nat_tests, is), ap goes is)
@@ -58,19 +59,19 @@ within_done limit next bytes told done = by (nat_le (length bytes) limit) refl d
 pub text_done : (from : Origin) (file : Option (List ℕ)) (bytes : List ℕ) (next : List ℕ → Plan) (told : Told) → bytes_at file told.files told.input ≡ Some bytes → IsDoneAnswer (answer (takes_bytes from wrapped_limit file next) told)
     → answer (takes_bytes from wrapped_limit file next) told ≡ answer (next bytes) (behind file told)
 text_done from (Some name) bytes next told there done =
-    loaded_done (map.get told.files name) bytes wrapped_limit (refused told (status.InMissing from)) (refused told status.KeysetTooLong) (λ b. answer (next b) told) there (λ h. absurd (cc)) done
+    loaded_done (map.get told.files name) bytes wrapped_limit (refused told (status.InMissing from)) (refused told (status.KeysetTooLong from)) (λ b. answer (next b) told) there (λ h. absurd (cc)) done
 text_done from None bytes next told there done =
     let same : told.input ≡ bytes = cc in
-    went_done (nat_le (length told.input) wrapped_limit) (answer (next told.input) (record told { input = [] })) (record (refused told status.KeysetTooLong) { input = Some (drop (wrapped_limit + 1) told.input) }) (λ h. absurd (cc)) done
+    went_done (nat_le (length told.input) wrapped_limit) (answer (next told.input) (record told { input = [] })) (record (refused told (status.KeysetTooLong origins.StandardInput)) { input = Some (drop (wrapped_limit + 1) told.input) }) (λ h. absurd (cc)) done
     ∙ ap (λ b. answer (next b) (record told { input = [] })) same
 
 pub text_reached : (from : Origin) (file : Option (List ℕ)) (bytes : List ℕ) (next : List ℕ → Plan) (told : Told) → bytes_at file told.files told.input ≡ Some bytes → length bytes ≤ wrapped_limit
     → answer (takes_bytes from wrapped_limit file next) told ≡ answer (next bytes) (behind file told)
 text_reached from (Some name) bytes next told there within =
-    loaded (map.get told.files name) bytes wrapped_limit (refused told (status.InMissing from)) (refused told status.KeysetTooLong) (λ b. answer (next b) told) there within
+    loaded (map.get told.files name) bytes wrapped_limit (refused told (status.InMissing from)) (refused told (status.KeysetTooLong from)) (λ b. answer (next b) told) there within
 text_reached from None bytes next told there within =
     let same : told.input ≡ bytes = cc in
-    went_on (nat_le (length told.input) wrapped_limit) (answer (next told.input) (record told { input = [] })) (record (refused told status.KeysetTooLong) { input = Some (drop (wrapped_limit + 1) told.input) }) (let fits = subst (λ b. length b ≤ wrapped_limit) (sym same) within in grind (arith, nat_tests, fits))
+    went_on (nat_le (length told.input) wrapped_limit) (answer (next told.input) (record told { input = [] })) (record (refused told (status.KeysetTooLong origins.StandardInput)) { input = Some (drop (wrapped_limit + 1) told.input) }) (let fits = subst (λ b. length b ≤ wrapped_limit) (sym same) within in grind (arith, nat_tests, fits))
     ∙ ap (λ b. answer (next b) (record told { input = [] })) same
 
 -- ---- wrapping
@@ -122,11 +123,11 @@ wrap_done : (name : List ℕ) (form : Format) (in' out : KeysetFile) (told : Tol
     → bytes_at out.file (answer (command_plan standard_table (wrap_keyset name form in' out)) told).files (answer (command_plan standard_table (wrap_keyset name form in' out)) told).output ≡ Some text.bytes
     → WasWrapped out.form told master before text old keys
 wrap_done name form in' out told master before text old keys of_master lies is_master is done in_form read out_form put =
-    let next : Keys → Plan = λ m. handles standard_table Aead m (λ fit. behind_master in' out m) in
+    let next : Keys → Plan = λ m. handles origins.OnlyMaster standard_table Aead m (λ fit. behind_master in' out m) in
     let l = load_done origins.OnlyMaster name form master.bytes old next told lies (ap (λ f. read_in f master.bytes) of_master ∙ is_master) done in
-    let d : IsDoneAnswer (answer (unless_unfit (unfit old Aead standard_table) (behind_master in' out old)) told) = ap (λ (a : Answer). a.status) (sym l) ∙ done in
-    let fit = unfit_done (unfit old Aead standard_table) (behind_master in' out old) told d in
-    let f : answer (unless_unfit (unfit old Aead standard_table) (behind_master in' out old)) told ≡ answer (behind_master in' out old) told = ap (λ u. answer (unless_unfit u (behind_master in' out old)) told) fit in
+    let d : IsDoneAnswer (answer (unless_unfit (unfit_key origins.OnlyMaster old) (unfit old Aead standard_table) (behind_master in' out old)) told) = ap (λ (a : Answer). a.status) (sym l) ∙ done in
+    let fit = unfit_done _ (unfit old Aead standard_table) (behind_master in' out old) told d in
+    let f : answer (unless_unfit (unfit_key origins.OnlyMaster old) (unfit old Aead standard_table) (behind_master in' out old)) told ≡ answer (behind_master in' out old) told = ap (λ u. answer (unless_unfit (unfit_key origins.OnlyMaster old) u (behind_master in' out old)) told) fit in
     let e : IsDoneAnswer (answer (behind_master in' out old) told) = ap (λ (a : Answer). a.status) (sym f) ∙ d in
     let make : Keys → Plan = λ k. makes_wrapped k old standard_table out.form (puts out.file) in
     let rest : Keys → Plan = λ k. writes_keyset formats.Binary k (λ plain. make k) in
@@ -202,11 +203,11 @@ unwrap_keeps law binary json unwrap later text after over keys x read gave fault
     let told = unwrap.told in
     let a : Asked → Answer = λ asked. answer (command_plan standard_table asked) told in
     let done : IsDoneAnswer (a (unwrap_keyset x.name later.form in' out)) = ap (λ asked. (a asked).status) (sym x.asked) ∙ x.handed.done in
-    let next : Keys → Plan = λ m. handles standard_table Aead m (λ fit. opens_plan in' out m) in
+    let next : Keys → Plan = λ m. handles origins.Master standard_table Aead m (λ fit. opens_plan in' out m) in
     let l = load_done origins.Master x.name later.form later.bytes over next told x.lies read done in
-    let d : IsDoneAnswer (answer (unless_unfit (unfit over Aead standard_table) (opens_plan in' out over)) told) = ap (λ (a : Answer). a.status) (sym l) ∙ done in
-    let fit = unfit_done (unfit over Aead standard_table) (opens_plan in' out over) told d in
-    let f : answer (unless_unfit (unfit over Aead standard_table) (opens_plan in' out over)) told ≡ answer (opens_plan in' out over) told = ap (λ u. answer (unless_unfit u (opens_plan in' out over)) told) fit in
+    let d : IsDoneAnswer (answer (unless_unfit (unfit_key origins.Master over) (unfit over Aead standard_table) (opens_plan in' out over)) told) = ap (λ (a : Answer). a.status) (sym l) ∙ done in
+    let fit = unfit_done _ (unfit over Aead standard_table) (opens_plan in' out over) told d in
+    let f : answer (unless_unfit (unfit_key origins.Master over) (unfit over Aead standard_table) (opens_plan in' out over)) told ≡ answer (opens_plan in' out over) told = ap (λ u. answer (unless_unfit (unfit_key origins.Master over) u (opens_plan in' out over)) told) fit in
     let t = text_done origins.In in'.file text.bytes (λ text. unwraps (origin_of origins.In in'.file) over standard_table in'.form text (puts_keyset out)) told x.handed.read (ap (λ (a : Answer). a.status) (sym (l ∙ f)) ∙ done) in
     let behind' = behind in'.file told in
     let g = given_keyset (origin_of origins.In in'.file) over in'.form text.bytes keys (puts_keyset out) behind' (ap (λ f. unwrap_of over standard_table text.bytes (is_json f)) x.handed.read_form ∙ gave) in
@@ -229,7 +230,7 @@ wrap_step law binary json stored back wrap unwrap before after keys goes random 
 
 pub put_reached : (out : KeysetFile) (keys : Keys) (told : Told) → length (written_in out.form keys) ≤ keyset_limit → IsFree out.file told.files → IsDoneAnswer (answer (puts_keyset out keys) told)
 put_reached out keys told within free =
-    ap (λ (b : Bool). (answer (if b then puts out.file bytes else ends status.KeysetTooLong tt) told).status) (let e : nat_le (length bytes) keyset_limit ≡ true = grind (arith, nat_tests, within) in e)
+    ap (λ (b : Bool). (answer (if b then puts out.file bytes else ends status.KeysetOutgrown tt) told).status) (let e : nat_le (length bytes) keyset_limit ≡ true = grind (arith, nat_tests, within) in e)
     ∙ bytes_reached out.file bytes told free
   where
     bytes : List ℕ

@@ -8,6 +8,7 @@ use Rattle.tink_spec.specs.Outside.{SinkState, Rose}
 use Rattle.tinkey_plans.specs.Commands.{command_plan}
 use Rattle.tinkey_plans.specs.Plan.{Told, answer}
 use Rattle.tinkey_plans.specs.Status.{Reports}
+use Rattle.tinkey_plans.specs.declared.mention.Mention.{Mention}
 use Rattle.tinkey_plans.specs.declared.status.Status.{Status}
 use Rattle.tinkey_readable.specs.Lying.{LiesBehind}
 use Rattle.tinkey_words.specs.Words.{Lock, KeysetFile, list_keyset}
@@ -36,9 +37,10 @@ pub record TookOf (text : List ℕ) (old new : SinkState) (before : List ℕ) : 
   pub written : new.written ≡ Some (before ++ front)
   pub all : (Rose old.faults new.faults → ⊥) → rest ≡ []
 
--- There is one text for each status, and what is reported of a run is of that text: it goes by the status
--- alone, whatever keys and plaintexts the run was over.
+-- There is one text for each status and for what a second line takes from the words, which is the command that they
+-- name and what is left of an output. What is reported of a run is of that text: it goes by these alone, whatever keys
+-- and plaintexts the run was over.
 abbrev pub ReportsGoByStatus : Type 0
-ReportsGoByStatus = (s : Status) → (text : List ℕ)
-    × ((old new : SinkState) (before : List ℕ) → old.written ≡ Some before → Reports s old new
+ReportsGoByStatus = (mention : Mention) (s : Status) → (text : List ℕ)
+    × ((old new : SinkState) (before : List ℕ) → old.written ≡ Some before → Reports mention s old new
     → TookOf text old new before)

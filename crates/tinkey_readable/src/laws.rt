@@ -603,8 +603,9 @@ pub fn key_of_done()
 
 /// A listing doesn't depend on key messages and key material types: list-keyset prints the same for
 /// two keysets that differ only in these, each in clear or under a lock. Standard error depends
-/// only on the status, which holds places, counts, numbers and this program's names, and no byte of
-/// a key or a plaintext. So both may be shown to others.
+/// only on the command that the words name, on whether they name a file to make, and on the status,
+/// which holds places, ids, counts, numbers and this program's names, and no byte of a key or a
+/// plaintext. So both may be shown to others.
 pub fn listing_hides_keys()
     ensures listing { ListingHidesKeys }
     ensures listed { ListedAlike }

@@ -45,6 +45,7 @@ use Rattle.wrapped_prims.specs.Sealing.{IsSealFault}
 use Rattle.wrapped_prims.specs.declared.held.Held.{Held}
 use Rattle.wrapped_prims.specs.declared.sealing.SealFault.TheVariants as seal_faults
 use Rattle.tinkey_run.proofs.UseLemmas.{Rest, behind_memory, draw_failed_there, no_handle, no_keyset, primary_is, same_entropy, sealed_with, serves, short_random, starved_sealing, too_few, whole_iv, with_handle}
+use Rattle.tinkey_plans.specs.declared.origin.Origin.TheVariants as origins
 
 -- ---- too few random bytes
 
@@ -309,25 +310,25 @@ envelope_no_keyset table lock name form template work old new row r s one is two
     passes_then (finds_dek template) (of_row table lock name form work) old old new row r one (no_keyset table Aead lock name form (with_data_keys table row work) old new r s is two)
 
 pub envelope_no_handle : (table : Table) (lock : Lock) (name : List ℕ) (form : Format) (template : List ℕ) (work : AskedEnvelope) (old mid : World) (row : Row) (keys : Keys) (r : Result (List ℕ) Status) (s : Status) → Passes (finds_dek template) old (Ok row) old → Passes (loads_locked table lock name form) old (Ok keys) mid
-    → IsErrAnd r (λ e. e ≡ s) → ((next : Unit {0} → Plan) → Ends (handles table Aead keys next) mid s mid) → Passes (envelope_output table lock name form template work) old r mid
+    → IsErrAnd r (λ e. e ≡ s) → ((next : Unit {0} → Plan) → Ends (handles origins.Keyset table Aead keys next) mid s mid) → Passes (envelope_output table lock name form template work) old r mid
 envelope_no_handle table lock name form template work old mid row keys r s one two is three =
     passes_then (finds_dek template) (of_row table lock name form work) old old mid row r one (no_handle table Aead lock name form (with_data_keys table row work) old mid keys Aead r s is refl two three)
 
 -- there is a template, and a keyset whose records can serve, and the rest ended so
 pub envelope_with_handle : (table : Table) (lock : Lock) (name : List ℕ) (form : Format) (template : List ℕ) (work : AskedEnvelope) (old mid new : World) (row : Row) (keys : Keys) (r : Result (List ℕ) Status) → Passes (finds_dek template) old (Ok row) old → Passes (loads_locked table lock name form) old (Ok keys) mid
-    → Passes (handles table Aead keys) mid (Ok tt) mid → Passes (with_data_keys table row work keys) mid r new → Passes (envelope_output table lock name form template work) old r new
+    → Passes (handles origins.Keyset table Aead keys) mid (Ok tt) mid → Passes (with_data_keys table row work keys) mid r new → Passes (envelope_output table lock name form template work) old r new
 envelope_with_handle table lock name form template work old mid new row keys r one two three four =
     passes_then (finds_dek template) (of_row table lock name form work) old old new row r one (with_handle table Aead lock name form (with_data_keys table row work) old mid new keys Aead r refl two three four)
 
 -- the template's keys have no manager
 pub envelope_no_manager : (table : Table) (lock : Lock) (name : List ℕ) (form : Format) (template : List ℕ) (work : AskedEnvelope) (old mid : World) (row : Row) (keys : Keys) (r : Result (List ℕ) Status) (s : Status) → Passes (finds_dek template) old (Ok row) old → Passes (loads_locked table lock name form) old (Ok keys) mid
-    → Passes (handles table Aead keys) mid (Ok tt) mid → IsErrAnd r (λ e. e ≡ s) → Passes {A = Scheme} (finds_scheme table row) mid (Err s) mid → Passes (envelope_output table lock name form template work) old r mid
+    → Passes (handles origins.Keyset table Aead keys) mid (Ok tt) mid → IsErrAnd r (λ e. e ≡ s) → Passes {A = Scheme} (finds_scheme table row) mid (Err s) mid → Passes (envelope_output table lock name form template work) old r mid
 envelope_no_manager table lock name form template work old mid row keys r s one two three is four =
     envelope_with_handle table lock name form template work old mid mid row keys r one two three (ends_there (finds_scheme table row) (reads_envelope table row work keys) mid mid r s is four)
 
 -- the input wasn't read
 pub envelope_no_input : (table : Table) (lock : Lock) (name : List ℕ) (form : Format) (template : List ℕ) (work : AskedEnvelope) (old mid new : World) (row : Row) (keys : Keys) (scheme : Scheme) (r : Result (List ℕ) Status) (s : Status) → Passes (finds_dek template) old (Ok row) old → Passes (loads_locked table lock name form) old (Ok keys) mid
-    → Passes (handles table Aead keys) mid (Ok tt) mid → Passes (finds_scheme table row) mid (Ok scheme) mid → IsErrAnd r (λ e. e ≡ s) → Passes {A = List ℕ} (reads_input (envelope_limit work)) mid (Err s) new → Passes (envelope_output table lock name form template work) old r new
+    → Passes (handles origins.Keyset table Aead keys) mid (Ok tt) mid → Passes (finds_scheme table row) mid (Ok scheme) mid → IsErrAnd r (λ e. e ≡ s) → Passes {A = List ℕ} (reads_input (envelope_limit work)) mid (Err s) new → Passes (envelope_output table lock name form template work) old r new
 envelope_no_input table lock name form template work old mid new row keys scheme r s one two three four is five =
     envelope_with_handle table lock name form template work old mid new row keys r one two three
     (passes_then (finds_scheme table row) (reads_envelope table row work keys) mid mid new scheme r four (ends_there (reads_input (envelope_limit work)) (envelopes table keys scheme row work) mid new r s is five))

@@ -17,7 +17,7 @@ use Rattle.tinkey_plans.specs.declared.origin.Origin.{Origin}
 use Rattle.tinkey_plans.specs.declared.status.Status.{Status}
 use Rattle.tinkey_plans.specs.declared.status.Status.TheVariants as status
 
-faulty : (from : Origin) (b : Bool) (fault : KeysetRefusal) (w : World) → Ends (if b then ends (status.KeysetLocked fault from) tt else ends (status.Keyset fault) tt) w (if b then status.KeysetLocked fault from else status.Keyset fault) w
+faulty : (from : Origin) (b : Bool) (fault : KeysetRefusal) (w : World) → Ends (if b then ends (status.KeysetLocked fault from) tt else ends (status.Keyset fault from) tt) w (if b then status.KeysetLocked fault from else status.Keyset fault from) w
 faulty from true fault w = (refl, refl)
 faulty from false fault w = (refl, refl)
 

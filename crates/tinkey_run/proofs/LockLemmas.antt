@@ -46,21 +46,21 @@ finished_there first rest old new (Err e) s is one = rw is (one rest)
 
 -- ---- a master
 
-pub master_opened : {A B : Type 0} (from : Origin) (other : B → Option (Table × Keys × Held)) (table own : Table) (held : Held) (master : Master) (keys : Keys) (old mid : World) (h : A) (l : B) → other l ≡ Some (own, keys, held) → Passes (loads_keyset from master.file master.form) old (Ok keys) mid → PassesAs {A = A} (λ h. tt) (handles table Aead keys) mid (Ok h) mid
+pub master_opened : {A B : Type 0} (from : Origin) (other : B → Option (Table × Keys × Held)) (table own : Table) (held : Held) (master : Master) (keys : Keys) (old mid : World) (h : A) (l : B) → other l ≡ Some (own, keys, held) → Passes (loads_keyset from master.file master.form) old (Ok keys) mid → PassesAs {A = A} (λ h. tt) (handles from table Aead keys) mid (Ok h) mid
     → IsOver own Aead keys held → own ≡ table → PassesLock other table (opens_master from table master) old (Ok l) mid
 master_opened from other table own held master keys old mid h l is one two over same =
-    record { passes = (Some keys, subst (λ (o : Option (Table × Keys × Held)). IsLock o table (Some keys)) (sym is) (record { is = (same, refl, over) }), λ next s last run. one (λ k. handles table Aead k (λ fit. next (Some k))) s last (two (λ fit. next (Some keys)) s last run)) }
+    record { passes = (Some keys, subst (λ (o : Option (Table × Keys × Held)). IsLock o table (Some keys)) (sym is) (record { is = (same, refl, over) }), λ next s last run. one (λ k. handles from table Aead k (λ fit. next (Some k))) s last (two (λ fit. next (Some keys)) s last run)) }
 
 -- its keys can't serve
-pub master_unfit : {B : Type 0} (from : Origin) (other : B → Option (Table × Keys × Held)) (table : Table) (master : Master) (keys : Keys) (old mid : World) (r : Result B Status) (s : Status) → IsErrAnd r (λ e. e ≡ s) → Passes (loads_keyset from master.file master.form) old (Ok keys) mid → ((next : Unit {0} → Plan) → Ends (handles table Aead keys next) mid s mid)
+pub master_unfit : {B : Type 0} (from : Origin) (other : B → Option (Table × Keys × Held)) (table : Table) (master : Master) (keys : Keys) (old mid : World) (r : Result B Status) (s : Status) → IsErrAnd r (λ e. e ≡ s) → Passes (loads_keyset from master.file master.form) old (Ok keys) mid → ((next : Unit {0} → Plan) → Ends (handles from table Aead keys next) mid s mid)
     → PassesLock other table (opens_master from table master) old r mid
 master_unfit from other table master keys old mid (Ok l) s is one two = absurd is
-master_unfit from other table master keys old mid (Err e) s is one two = record { passes = λ next. rw is (one (λ k. handles table Aead k (λ fit. next (Some k))) s mid (two (λ fit. next (Some keys)))) }
+master_unfit from other table master keys old mid (Err e) s is one two = record { passes = λ next. rw is (one (λ k. handles from table Aead k (λ fit. next (Some k))) s mid (two (λ fit. next (Some keys)))) }
 
 -- or there is no such keyset
 pub master_unopened : {A : Type 0} (from : Origin) (held : A → Option (Table × Keys × Held)) (table : Table) (master : Master) (old new : World) (r : Result A Status) (s : Status) → IsErrAnd r (λ e. e ≡ s) → Passes {A = Keys} (loads_keyset from master.file master.form) old (Err s) new → PassesLock held table (opens_master from table master) old r new
 master_unopened from held table master old new (Ok h) s is one = absurd is
-master_unopened from held table master old new (Err e) s is one = record { passes = λ next. rw is (one (λ k. handles table Aead k (λ fit. next (Some k)))) }
+master_unopened from held table master old new (Err e) s is one = record { passes = λ next. rw is (one (λ k. handles from table Aead k (λ fit. next (Some k)))) }
 
 -- a master whose keys serve is some lock
 pub master_is_lock : (own : Table) (keys : Keys) (held : Held) → IsOver own Aead keys held → IsSomeLock (Some (own, keys, held))

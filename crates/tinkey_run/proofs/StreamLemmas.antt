@@ -38,11 +38,13 @@ use Rattle.tinkey_words.specs.Words.{Lock}
 use Rattle.managers.specs.Table.{Table}
 use Rattle.tinkey_plans.specs.Streaming.{unless_unfit, keys_for, with_keys, loads_stream_keys, seals_stream, opens_stream, reseals_stream, stream_keys_refusal}
 use Rattle.tinkey_plans.proofs.StepLemmas.{passes_then, ends_there}
+use Rattle.tinkey_plans.specs.UnfitKeys.{unfit_key}
+use Rattle.tinkey_plans.specs.declared.origin.Origin.TheVariants as origins
 
 -- The keys.
 
 abbrev fits : Keys → (KeysForStreams → Plan) → Plan
-fits keys next = allocates (unless_unfit (stream_unfit keys) (with_keys (keys_for keys) next))
+fits keys next = allocates (unless_unfit (unfit_key origins.Keyset keys) (stream_unfit keys) (with_keys (keys_for keys) next))
 
 -- no keyset was loaded
 pub no_keyset : (table : Table) (lock : Lock) (name : List ℕ) (form : Format) (old new : World) (r : Result KeysForStreams Status) (s : Status) → IsErrAnd r (λ e. e ≡ s) → Passes {A = Keys} (loads_locked table lock name form) old (Err s) new → Passes (loads_stream_keys table lock name form) old r new
@@ -58,15 +60,15 @@ pub with_stream_keys : (table : Table) (lock : Lock) (name : List ℕ) (form : F
 with_stream_keys table lock name form old mid keys those fit are one =
     passes_then (loads_locked table lock name form) fits old mid mid keys (Ok those) one (λ next s last run. inl (rw (fit, keys_are keys those are) run))
 
-pub unfit_ends : (keys : Keys) (fault : StreamKeysFault) (w : World) → IsUnfit fault (stream_unfit keys) → (next : KeysForStreams → Plan) → Ends (fits keys next) w (stream_keys_refusal fault) w
+pub unfit_ends : (keys : Keys) (fault : StreamKeysFault) (w : World) → IsUnfit fault (stream_unfit keys) → (next : KeysForStreams → Plan) → Ends (fits keys next) w (stream_keys_refusal (unfit_key origins.Keyset keys) fault) w
 unfit_ends keys (key_faults.NotStream i) w is next = rw is (inl (refl, refl))
 unfit_ends keys (key_faults.BadKey i rule) w is next = rw is (inl (refl, refl))
 unfit_ends keys key_faults.NoMemory w is next = inr (refl, refl)
 
 -- some record gives none
-pub no_stream_keys : (table : Table) (lock : Lock) (name : List ℕ) (form : Format) (old mid : World) (keys : Keys) (fault : StreamKeysFault) → IsUnfit fault (stream_unfit keys) → Passes (loads_locked table lock name form) old (Ok keys) mid → Passes {A = KeysForStreams} (loads_stream_keys table lock name form) old (Err (stream_keys_refusal fault)) mid
+pub no_stream_keys : (table : Table) (lock : Lock) (name : List ℕ) (form : Format) (old mid : World) (keys : Keys) (fault : StreamKeysFault) → IsUnfit fault (stream_unfit keys) → Passes (loads_locked table lock name form) old (Ok keys) mid → Passes {A = KeysForStreams} (loads_stream_keys table lock name form) old (Err (stream_keys_refusal (unfit_key origins.Keyset keys) fault)) mid
 no_stream_keys table lock name form old mid keys fault is one =
-    passes_then (loads_locked table lock name form) fits old mid mid keys (Err (stream_keys_refusal fault)) one (unfit_ends keys fault mid is)
+    passes_then (loads_locked table lock name form) fits old mid mid keys (Err (stream_keys_refusal (unfit_key origins.Keyset keys) fault)) one (unfit_ends keys fault mid is)
 
 -- What is decided lasts.
 

@@ -43,13 +43,16 @@ use Rattle.tinkey_plans.specs.declared.sealer.Unopened.{Unopened}
 use Rattle.tinkey_plans.specs.declared.sealer.Unopened.TheVariants as unopened
 use Rattle.tinkey_plans.specs.Using.{as_drawn, dseals_plain, limit_for, seals_plain, with_opened, works, use_output}
 use Rattle.tinkey_words.specs.Words.{AskedWork, Lock, to_seal, to_reseal, to_dreseal, primitive_for}
+use Rattle.tinkey_plans.specs.UnfitKeys.{unfit_key}
+use Rattle.tinkey_plans.specs.declared.origin.Origin.{Origin}
+use Rattle.tinkey_plans.specs.declared.origin.Origin.TheVariants as origins
 
 -- a keyset that can't serve, or want of memory
-pub unfit_ends : (table : Table) (primitive : Primitive) (keys : Keys) (fault : HandleError) (w : World) → IsFaultOf (unfit keys primitive table) fault → (next : Unit {0} → Plan) → Ends (handles table primitive keys next) w (handle_refusal fault) w
-unfit_ends table primitive keys (faults.NoManager i) w is next = rw is (inl (refl, refl))
-unfit_ends table primitive keys (faults.BadKey i rule) w is next = rw is (inl (refl, refl))
-unfit_ends table primitive keys (faults.NotRaw i) w is next = rw is (inl (refl, refl))
-unfit_ends table primitive keys faults.NoMemory w is next = inr (refl, refl)
+pub unfit_ends : (from : Origin) (table : Table) (primitive : Primitive) (keys : Keys) (fault : HandleError) (w : World) → IsFaultOf (unfit keys primitive table) fault → (next : Unit {0} → Plan) → Ends (handles from table primitive keys next) w (handle_refusal (unfit_key from keys) fault) w
+unfit_ends from table primitive keys (faults.NoManager i) w is next = rw is (inl (refl, refl))
+unfit_ends from table primitive keys (faults.BadKey i rule) w is next = rw is (inl (refl, refl))
+unfit_ends from table primitive keys (faults.NotRaw i) w is next = rw is (inl (refl, refl))
+unfit_ends from table primitive keys faults.NoMemory w is next = inr (refl, refl)
 
 -- a step behind which memory isn't wanting
 pub behind_memory : {A : Type 0} (step : (A → Plan) → Plan) (old new : World) (r : Result A Status) → Passes step old r new → Passes (λ next. allocates (step next)) old r new
@@ -168,7 +171,7 @@ abbrev pub Rest : Type 0 → Type 0
 Rest B = Keys → (B → Plan) → Plan
 
 abbrev checks : {B : Type 0} → Table → Primitive → Rest B → Rest B
-checks table primitive rest keys next = handles table primitive keys (λ fit. rest keys next)
+checks table primitive rest keys next = handles origins.Keyset table primitive keys (λ fit. rest keys next)
 
 abbrev pub serves : {B : Type 0} → Table → Primitive → Lock → (name : List ℕ) → Format → Rest B → (B → Plan) → Plan
 serves table primitive lock name form rest next = loads_locked table lock name form (λ keys. checks table primitive rest keys next)
@@ -179,17 +182,17 @@ no_keyset table p lock name form rest old new r s is one = ends_there (loads_loc
 
 -- its records can't serve
 pub no_handle : {B : Type 0} (table : Table) (p : Primitive) (lock : Lock) (name : List ℕ) (form : Format) (rest : Rest B) (old mid : World) (keys : Keys) (primitive : Primitive) (r : Result B Status) (s : Status) → IsErrAnd r (λ e. e ≡ s) → primitive ≡ p → Passes (loads_locked table lock name form) old (Ok keys) mid
-    → ((next : Unit {0} → Plan) → Ends (handles table primitive keys next) mid s mid) → Passes (serves table p lock name form rest) old r mid
+    → ((next : Unit {0} → Plan) → Ends (handles origins.Keyset table primitive keys next) mid s mid) → Passes (serves table p lock name form rest) old r mid
 no_handle table p lock name form rest old mid keys primitive r s is same one two =
     passes_then (loads_locked table lock name form) (checks table p rest) old mid mid keys r one
-    (ends_there (handles table p keys) (λ fit. rest keys) mid mid r s is (λ next. subst (λ (p : Primitive). Ends (handles table p keys next) mid s mid) same (two next)))
+    (ends_there (handles origins.Keyset table p keys) (λ fit. rest keys) mid mid r s is (λ next. subst (λ (p : Primitive). Ends (handles origins.Keyset table p keys next) mid s mid) same (two next)))
 
 -- the records can serve, and the rest ended so
-pub with_handle : {B : Type 0} (table : Table) (p : Primitive) (lock : Lock) (name : List ℕ) (form : Format) (rest : Rest B) (old mid new : World) (keys : Keys) (primitive : Primitive) (r : Result B Status) → primitive ≡ p → Passes (loads_locked table lock name form) old (Ok keys) mid → Passes (handles table primitive keys) mid (Ok tt) mid
+pub with_handle : {B : Type 0} (table : Table) (p : Primitive) (lock : Lock) (name : List ℕ) (form : Format) (rest : Rest B) (old mid new : World) (keys : Keys) (primitive : Primitive) (r : Result B Status) → primitive ≡ p → Passes (loads_locked table lock name form) old (Ok keys) mid → Passes (handles origins.Keyset table primitive keys) mid (Ok tt) mid
     → Passes (rest keys) mid r new → Passes (serves table p lock name form rest) old r new
 with_handle table p lock name form rest old mid new keys primitive r same one two three =
     passes_then (loads_locked table lock name form) (checks table p rest) old mid new keys r one
-    (passes_then (handles table p keys) (λ fit. rest keys) mid mid new tt r (subst (λ (p : Primitive). Passes (handles table p keys) mid (Ok tt) mid) same two) three)
+    (passes_then (handles origins.Keyset table p keys) (λ fit. rest keys) mid mid new tt r (subst (λ (p : Primitive). Passes (handles origins.Keyset table p keys) mid (Ok tt) mid) same two) three)
 
 -- the plan of work from the input on
 abbrev pub reads : Table → AskedWork → Rest (List ℕ)
@@ -199,10 +202,10 @@ pub use_no_keyset : (table : Table) (lock : Lock) (name : List ℕ) (form : Form
 use_no_keyset table lock name form work old new r s is one = no_keyset table (primitive_for work) lock name form (reads table work) old new r s is one
 
 pub use_no_handle : (table : Table) (lock : Lock) (name : List ℕ) (form : Format) (work : AskedWork) (old mid : World) (keys : Keys) (primitive : Primitive) (r : Result (List ℕ) Status) (s : Status) → IsErrAnd r (λ e. e ≡ s) → primitive ≡ primitive_for work → Passes (loads_locked table lock name form) old (Ok keys) mid
-    → ((next : Unit {0} → Plan) → Ends (handles table primitive keys next) mid s mid) → Passes (use_output table lock name form work) old r mid
+    → ((next : Unit {0} → Plan) → Ends (handles origins.Keyset table primitive keys next) mid s mid) → Passes (use_output table lock name form work) old r mid
 use_no_handle table lock name form work old mid keys primitive r s is same one two = no_handle table (primitive_for work) lock name form (reads table work) old mid keys primitive r s is same one two
 
-pub use_with_handle : (table : Table) (lock : Lock) (name : List ℕ) (form : Format) (work : AskedWork) (old mid new : World) (keys : Keys) (primitive : Primitive) (r : Result (List ℕ) Status) → primitive ≡ primitive_for work → Passes (loads_locked table lock name form) old (Ok keys) mid → Passes (handles table primitive keys) mid (Ok tt) mid
+pub use_with_handle : (table : Table) (lock : Lock) (name : List ℕ) (form : Format) (work : AskedWork) (old mid new : World) (keys : Keys) (primitive : Primitive) (r : Result (List ℕ) Status) → primitive ≡ primitive_for work → Passes (loads_locked table lock name form) old (Ok keys) mid → Passes (handles origins.Keyset table primitive keys) mid (Ok tt) mid
     → Passes (reads table work keys) mid r new → Passes (use_output table lock name form work) old r new
 use_with_handle table lock name form work old mid new keys primitive r same one two three = with_handle table (primitive_for work) lock name form (reads table work) old mid new keys primitive r same one two three
 
@@ -210,7 +213,7 @@ use_with_handle table lock name form work old mid new keys primitive r same one 
 no_input : (table : Table) (work : AskedWork) (old new : World) (keys : Keys) (r : Result (List ℕ) Status) (s : Status) → IsErrAnd r (λ e. e ≡ s) → Passes {A = List ℕ} (reads_input (limit_for work)) old (Err s) new → Passes (reads table work keys) old r new
 no_input table work old new keys r s is one = ends_there (reads_input (limit_for work)) (works table keys work) old new r s is one
 
-pub use_no_input : (table : Table) (lock : Lock) (name : List ℕ) (form : Format) (work : AskedWork) (old mid new : World) (keys : Keys) (primitive : Primitive) (r : Result (List ℕ) Status) (s : Status) → primitive ≡ primitive_for work → Passes (loads_locked table lock name form) old (Ok keys) mid → Passes (handles table primitive keys) mid (Ok tt) mid
+pub use_no_input : (table : Table) (lock : Lock) (name : List ℕ) (form : Format) (work : AskedWork) (old mid new : World) (keys : Keys) (primitive : Primitive) (r : Result (List ℕ) Status) (s : Status) → primitive ≡ primitive_for work → Passes (loads_locked table lock name form) old (Ok keys) mid → Passes (handles origins.Keyset table primitive keys) mid (Ok tt) mid
     → IsErrAnd r (λ e. e ≡ s) → Passes {A = List ℕ} (reads_input (limit_for work)) mid (Err s) new → Passes (use_output table lock name form work) old r new
 use_no_input table lock name form work old mid new keys primitive r s same one two is three = use_with_handle table lock name form work old mid new keys primitive r same one two (no_input table work mid new keys r s is three)
 

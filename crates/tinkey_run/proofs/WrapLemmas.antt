@@ -60,15 +60,15 @@ wrapped_passes keys master table form text old entropy (Err s) is stood passes =
 pub unwrapped_passes : (from : Origin) (begins : Begins) (clear : Bool) (sealer : Sealer) (read : Result Keys Refusal) (keyset : Keyset) (w : World) → read ≡ Ok keyset → Passes (λ next. allocates (with_unwrapped from begins clear sealer read next)) w (Ok keyset) w
 unwrapped_passes from begins clear sealer read keyset w is = λ next s last run. inl (rw is run)
 
-unopened : (clear : Bool) (sealer : Sealer) (w : World) → Ends (ends_unopened clear sealer) w (unopened_status clear sealer) w
-unopened true sealer w = (refl, refl)
-unopened false sealer w = (refl, refl)
+unopened : (from : Origin) (clear : Bool) (sealer : Sealer) (w : World) → Ends (ends_unopened from clear sealer) w (unopened_status from clear sealer) w
+unopened from true sealer w = (refl, refl)
+unopened from false sealer w = (refl, refl)
 
 refused_so : (from : Origin) (begins : Begins) (clear : Bool) (sealer : Sealer) (read : Result Keys Refusal) (fault : UnwrapFault) (w : World) → IsRefusal fault read → (next : Keys → Plan) → Ends (allocates (with_unwrapped from begins clear sealer read next)) w (unwrap_refusal from begins clear sealer fault) w
 refused_so from begins clear sealer read (faults.OuterWire at) w is next = inl (rw is (refl, refl))
 refused_so from begins clear sealer read faults.NotJson w is next = inl (rw is (refl, refl))
 refused_so from begins clear sealer read faults.Member w is next = inl (rw is (refl, refl))
-refused_so from begins clear sealer read faults.NotOpened w is next = inl (rw is (unopened clear sealer w))
+refused_so from begins clear sealer read faults.NotOpened w is next = inl (rw is (unopened _ clear sealer w))
 refused_so from begins clear sealer read (faults.InnerWire at) w is next = inl (rw is (refl, refl))
 refused_so from begins clear sealer read (faults.Fault fault) w is next = inl (rw is (refl, refl))
 refused_so from begins clear sealer read faults.NoMemory w is next = inr (refl, refl)

@@ -27,7 +27,7 @@ use seal_wrap::{
 };
 use std::alloc::Global;
 use tink_base::{Bytes, Entropy, Source, Store};
-use tinkey_plans::{Sealer, Status, Unopened};
+use tinkey_plans::{Origin, Sealer, Status, Unopened};
 use tinkey_session::find_template;
 use tinkey_words::{Datum, Envelope, Format, Master};
 use wrapped_prims::{Handle, SealFault};
@@ -63,7 +63,7 @@ pub(crate) fn use_envelope<S: Source, E: Entropy, D: Store>(
 {
     let template = find_dek(template)?;
     let keyset = load_locked(alloc, managers, lock, name, form, store)?;
-    let handle = handle_of(alloc, &keyset, managers, Primitive::Aead)?;
+    let handle = handle_of(alloc, Origin::Keyset, &keyset, managers, Primitive::Aead)?;
     let manager = find_manager(managers, &template)?;
     let input = read_input_behind(alloc, envelope_room(work), envelope_limit(work), source)?;
     match work {

@@ -90,7 +90,7 @@ pub(crate) fn open_master<'m, D: Store>(
         ))) }
 {
     let keyset = load_keyset(alloc, from, master.file, master.form, store)?;
-    let handle = handle_of(alloc, &keyset, managers, Primitive::Aead)?;
+    let handle = handle_of(alloc, from, &keyset, managers, Primitive::Aead)?;
     Ok(OpenMaster { keyset, handle })
 }
 

@@ -109,7 +109,7 @@ pub(crate) fn within(bytes: Vec<u8>, limit: usize) -> Result<Bytes, Status>
     if bytes.len() <= limit {
         Ok(Bytes::own(bytes))
     } else {
-        Err(Status::KeysetTooLong)
+        Err(Status::KeysetOutgrown)
     }
 }
 

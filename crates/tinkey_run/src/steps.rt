@@ -55,7 +55,7 @@ pub(crate) fn load_bytes<D: Store>(
     match store.load(alloc, name, limit) {
         Ok(found) => match found {
             Loaded::Absent => Err(Status::InMissing(from)),
-            Loaded::TooLong => Err(Status::KeysetTooLong),
+            Loaded::TooLong => Err(Status::KeysetTooLong(from)),
             Loaded::Bytes(bytes) => Ok(bytes),
         },
         Err(e) => match e {
@@ -97,7 +97,7 @@ fn read_bytes<S: Source>(alloc: Global, limit: usize, source: &mut S) -> Result<
     match read_all(alloc, source, limit) {
         Ok(bytes) => Ok(Bytes::own(bytes)),
         Err(fault) => match fault {
-            ReadAllFault::TooLong => Err(Status::KeysetTooLong),
+            ReadAllFault::TooLong => Err(Status::KeysetTooLong(Origin::StandardInput)),
             ReadAllFault::Failed => Err(Status::ReadFault),
             ReadAllFault::NoMemory => Err(Status::NoMemory),
         },
@@ -147,10 +147,10 @@ fn json_fault(alloc: Global, from: Origin, bytes: &[u8], fault: KeysetRefusal) -
     match fault {
         KeysetRefusal::Empty => match is_wrapped_json(alloc, bytes) {
             Ok(true) => Status::KeysetLocked(fault, from),
-            Ok(false) => Status::Keyset(fault),
+            Ok(false) => Status::Keyset(fault, from),
             Err(NoMemory) => Status::NoMemory,
         },
-        _ => Status::Keyset(fault),
+        _ => Status::Keyset(fault, from),
     }
 }
 
@@ -185,7 +185,7 @@ fn fault_status(alloc: Global, from: Origin, bytes: &[u8], fault: KeysetRefusal)
 {
     match is_wrapped_binary(alloc, bytes, true) {
         Ok(true) => Status::KeysetLocked(fault, from),
-        Ok(false) => Status::Keyset(fault),
+        Ok(false) => Status::Keyset(fault, from),
         Err(NoMemory) => Status::NoMemory,
     }
 }

@@ -15,7 +15,7 @@ use keyset_model::{Keyset, Record};
 use segment_stream::{Opener, StreamKeys};
 use std::alloc::Global;
 use tink_base::{Bytes, ENABLED, Source};
-use tinkey_plans::Status;
+use tinkey_plans::{Status, stream_keys_status};
 use tinkey_words::Datum;
 
 /// The line of the record under whose key the input is opened as a stream, with this associated data.
@@ -30,8 +30,10 @@ pub(crate) fn tell_stream<S: Source>(
         (record w { source = S.state source.old }) result
         (record w { source = S.state source.new }) }
 {
-    let keys = StreamKeys::new(alloc, keyset)?;
-    tell_front(alloc, keyset, &keys, ad, source)
+    match StreamKeys::new(alloc, keyset) {
+        Ok(keys) => tell_front(alloc, keyset, &keys, ad, source),
+        Err(fault) => Err(stream_keys_status(keyset, fault)),
+    }
 }
 
 /// The same by the keyset's keys for streams, which each of its ENABLED records gives.

@@ -16,7 +16,7 @@ use managers::{KeyTable, Managers};
 use segment_stream::{OpenPumpFault, Opener, SealPumpFault, Sealer, SealerFault, StreamKeys};
 use std::alloc::Global;
 use tink_base::{Entropy, PieceStore, Sink, Source, Store};
-use tinkey_plans::Status;
+use tinkey_plans::{Status, stream_keys_status};
 use tinkey_words::{Datum, Format, Master};
 
 /// What is done with a stream.
@@ -47,8 +47,10 @@ pub(crate) fn load_stream_keys<D: Store>(
     ensures sound { IfOk result AreSound }
 {
     let keyset = load_locked(alloc, managers, lock, name, form, store)?;
-    let keys = StreamKeys::new(alloc, &keyset)?;
-    Ok(keys)
+    match StreamKeys::new(alloc, &keyset) {
+        Ok(keys) => Ok(keys),
+        Err(fault) => Err(stream_keys_status(&keyset, fault)),
+    }
 }
 
 /// Does the work on the input, and puts the output into a new file or, if none is named, to the

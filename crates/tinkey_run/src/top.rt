@@ -6,6 +6,7 @@ ghost use Rattle.tinkey_plans.specs.Ends.{Ends, World, world};
 ghost use Rattle.tinkey_plans.specs.Commands.{asked_plan, plan_of, command_plan};
 ghost use Rattle.tinkey_plans.specs.Promises.{Promised};
 ghost use Rattle.tinkey_readable.specs.Readable.{IsReadable};
+ghost use Rattle.tinkey_plans.specs.Mentions.{mention_of};
 ghost use Rattle.tinkey_plans.specs.Status.{Reports};
 ghost use Rattle.tinkey_plans.specs.Steps.{Finishes};
 ghost use Rattle.tinkey_words.specs.Words.{seen_command};
@@ -25,7 +26,7 @@ use crate::using::use_keyset;
 use managers::{KeyTable, Managers};
 use std::alloc::Global;
 use tink_base::{Lookahead, PieceStore, Sink, Source};
-use tinkey_plans::{Status, help_text, report, version_text};
+use tinkey_plans::{Status, help_text, mention_of, report, version_text};
 use tinkey_readable::laws::sessions_are_readable;
 use tinkey_words::{Misuse, Request, parse};
 
@@ -57,7 +58,8 @@ pub fn run<S: Source, K: Sink, G: Sink, E: Lookahead, D: PieceStore>(
         (plan_of (⟦<Managers as KeyTable>⟧.table managers.now) (map string_bytes words.now))
         (world (S.state source.old) (K.state sink.old) (D.state store.old) (E.state entropy.old)) result
         (world (S.state source.new) (K.state sink.new) (D.state store.new) (E.state entropy.new)) }
-    ensures line { Reports result (G.state diag.old) (G.state diag.new) }
+    ensures line { Reports (mention_of (map string_bytes words.now)) result
+        (G.state diag.old) (G.state diag.new) }
     ensures readable { IsReadable
         (⟦<Managers as KeyTable>⟧.table managers.now) (map string_bytes words.now)
         (world (S.state source.old) (K.state sink.old) (D.state store.old) (E.state entropy.old)) result
@@ -65,7 +67,7 @@ pub fn run<S: Source, K: Sink, G: Sink, E: Lookahead, D: PieceStore>(
 {
     sessions_are_readable();
     let status = do_words(alloc, words, managers, source, sink, entropy, store);
-    report(diag, status);
+    report(diag, mention_of(words), status);
     status
 }
 

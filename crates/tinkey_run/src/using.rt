@@ -22,7 +22,7 @@ use keyset_model::Keyset;
 use managers::{KeyTable, Managers};
 use std::alloc::Global;
 use tink_base::{Bytes, Entropy, NoMemory, Source, Store, Trials};
-use tinkey_plans::{Sealer, Status, Unopened};
+use tinkey_plans::{Origin, Sealer, Status, Unopened, handle_status};
 use tinkey_session::Refusal;
 use tinkey_words::{DATUM_LIMIT, Datum, Format, Master, Work};
 use wrapped_prims::{DeriveFault, Handle, SealFault};
@@ -65,7 +65,13 @@ pub(crate) fn use_keyset<S: Source, E: Entropy, D: Store>(
         }) }
 {
     let keyset = load_locked(alloc, managers, lock, name, form, store)?;
-    let handle = handle_of(alloc, &keyset, managers, primitive_for(work))?;
+    let handle = handle_of(
+        alloc,
+        Origin::Keyset,
+        &keyset,
+        managers,
+        primitive_for(work),
+    )?;
     let room = room_for(&handle, work);
     let input = read_input_behind(alloc, room, limit_for(work), source)?;
     do_work(alloc, &keyset, &handle, work, input, entropy)
@@ -94,23 +100,27 @@ fn limit_for(work: Work<'_>) -> usize
     }
 }
 
-/// The handle of the keyset's keys for a primitive, or the first record that can't serve.
+/// The handle of the keyset's keys for a primitive, or the first record that can't serve. The keyset
+/// comes from there.
 pub(crate) fn handle_of<'m>(
     alloc: Global,
+    from: Origin,
     keyset: &Keyset,
     managers: &'m Managers,
     primitive: Primitive,
 ) -> Result<Handle<'m>, Status>
     requires no_stream { primitive ≢ Stream }
     ensures passes { (w : World) → PassesAs (λ h. tt)
-        (handles (⟦<Managers as KeyTable>⟧.table managers.now) primitive keyset.now) w result w }
+        (handles from (⟦<Managers as KeyTable>⟧.table managers.now) primitive keyset.now) w result w }
     ensures over { IfOk result (λ h. IsOver (⟦<Managers as KeyTable>⟧.table h.managers.now)
         primitive keyset.now h.held) }
     ensures table { IfOk result (λ h. ⟦<Managers as KeyTable>⟧.table h.managers.now
         ≡ ⟦<Managers as KeyTable>⟧.table managers.now) }
 {
-    let handle = Handle::new(alloc, keyset, managers, primitive)?;
-    Ok(handle)
+    match Handle::new(alloc, keyset, managers, primitive) {
+        Ok(handle) => Ok(handle),
+        Err(fault) => Err(handle_status(from, keyset, fault)),
+    }
 }
 
 /// How many bytes precede the ciphertext, if the work seals its input.

@@ -92,28 +92,28 @@ fn refusal(
         UnwrapFault::InnerWire(at) => Status::BadProto(at, from, Begins::Otherwise),
         UnwrapFault::NotJson => Status::NotJson(from, begins_of(text)),
         UnwrapFault::Member => Status::WrappedMember(from),
-        UnwrapFault::NotOpened => unopened(alloc, master, text, form),
-        UnwrapFault::Fault(fault) => Status::Keyset(fault),
+        UnwrapFault::NotOpened => unopened(alloc, from, master, text, form),
+        UnwrapFault::Fault(fault) => Status::Keyset(fault, from),
         UnwrapFault::NoMemory => Status::NoMemory,
     }
 }
 
 /// The status of a text that the master doesn't open: a keyset in clear is reported as one.
-fn unopened(alloc: Global, master: &Keyset, text: &[u8], form: Format) -> Status
+fn unopened(alloc: Global, from: Origin, master: &Keyset, text: &[u8], form: Format) -> Status
     requires bound { length text.now ≤ 4194304 }
-    ensures { OrStarved (unopened_status (is_keyset form text.now)
+    ensures { OrStarved (unopened_status from (is_keyset form text.now)
         (keyset_sealer form master.now text.now)) result }
 {
     match is_keyset(alloc, text, form) {
-        Ok(true) => Status::KeysetInClear,
-        Ok(false) => not_opened(alloc, master, text, form),
+        Ok(true) => Status::KeysetInClear(from),
+        Ok(false) => not_opened(alloc, from, master, text, form),
         Err(NoMemory) => Status::NoMemory,
     }
 }
 
 /// The status of an encrypted keyset that the master doesn't open.
-fn not_opened(alloc: Global, master: &Keyset, text: &[u8], form: Format) -> Status
-    ensures { OrStarved (unopened_status false (keyset_sealer form master.now text.now)) result }
+fn not_opened(alloc: Global, from: Origin, master: &Keyset, text: &[u8], form: Format) -> Status
+    ensures { OrStarved (unopened_status from false (keyset_sealer form master.now text.now)) result }
 {
     match encrypted_front(alloc, text, is_json(form)) {
         Ok(front) => Status::OpenFailed(Unopened::Keyset, sealer_under(master, &front)),

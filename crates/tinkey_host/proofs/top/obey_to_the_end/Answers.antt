@@ -19,4 +19,4 @@ returns-in-Err-clause-ended g c =
     c.in-Err.ensures.once
     c.in-Err.ensures.kept
     (c.from.ensures ∙ c.code.ensures)
-    c.report.ensures
+    (rw c.no_mention.ensures at c.report.ensures)
