@@ -29,10 +29,12 @@ use Rattle.tinkey_selftest.specs.Trial as trial
 use Rattle.tinkey_selftest.specs.declared.counts.Counts.{Counts}
 use Rattle.tinkey_session.specs.Talking.{talk}
 use Rattle.tinkey_words.specs.declared.words.misuse.Misuse.{Misuse}
+use Rattle.tinkey_words.specs.declared.words.request.StreamWork.{StreamWork}
+use Rattle.tinkey_words.specs.declared.words.request.StreamWork.TheVariants as works
 use Rattle.tinkey_words.specs.declared.words.rows.Format.{Format}
 use Rattle.tinkey_words.specs.declared.words.rows.SealedForm.{SealedForm}
 use Rattle.tinkey_words.specs.declared.words.rows.SealedForm.TheVariants as sealed
-use Rattle.tinkey_words.specs.Words.{Asked, Lock, KeysetFile, primitive_for, create_keyset, edit_keyset, list_keyset, key_of, convert_keyset, list_key_templates, use_keyset, use_envelope, seal_stream, open_stream, reseal_stream, open_range, self_test, session, help, version, words_of}
+use Rattle.tinkey_words.specs.Words.{Asked, Lock, KeysetFile, primitive_for, create_keyset, edit_keyset, list_keyset, key_of, convert_keyset, list_key_templates, use_keyset, use_envelope, use_stream, open_range, self_test, session, help, version, words_of}
 use Rattle.wrapped_prims.specs.Fitness.{unfit}
 use Rattle.tinkey_plans.specs.declared.unfit.UnfitKey.{UnfitKey}
 
@@ -100,14 +102,10 @@ begun_drawing : (out : Option (List ℕ)) (next : Plan) → IsDrawing next → I
 begun_drawing None next all = all
 begun_drawing (Some name) next all = all
 
-stream_drawing : (keys : KeysForStreams) (ad : List ℕ) (out : Option (List ℕ)) → IsDrawing (streaming.begins_file out (streaming.seals_stream keys ad out))
-stream_drawing keys ad out = begun_drawing out (streaming.seals_stream keys ad out) ((heading (keys.primary.derived + 7), refl), λ made. made_each IsDrawing closed made _ (λ random. passed_drawing out _))
-
-unstream_drawing : (keys : KeysForStreams) (ad : List ℕ) (out : Option (List ℕ)) → IsDrawing (streaming.begins_file out (streaming.opens_stream keys ad out))
-unstream_drawing keys ad out = begun_drawing out (streaming.opens_stream keys ad out) (passed_drawing out _)
-
-restream_drawing : (keys : KeysForStreams) (ad : List ℕ) (out : Option (List ℕ)) → IsDrawing (streaming.begins_file out (streaming.reseals_stream keys ad out))
-restream_drawing keys ad out = begun_drawing out (streaming.reseals_stream keys ad out) ((heading (keys.primary.derived + 7), refl), λ made. made_each IsDrawing closed made _ (λ random. passed_drawing out _))
+stream_drawing : (work : StreamWork) (ad : List ℕ) (out : Option (List ℕ)) (keys : KeysForStreams) → IsDrawing (streaming.passes_stream work keys ad out)
+stream_drawing works.Seal ad out keys = ((heading (keys.primary.derived + 7), refl), λ made. made_each IsDrawing closed made _ (λ random. passed_drawing out _))
+stream_drawing works.Open ad out keys = passed_drawing out _
+stream_drawing works.Reseal ad out keys = ((heading (keys.primary.derived + 7), refl), λ made. made_each IsDrawing closed made _ (λ random. passed_drawing out _))
 
 saved_drawing : (table : Table) (master : Option Keys) (file : Option (List ℕ)) (form : Format) (keys : Keys) → IsDrawing (saves_as table master file form keys)
 saved_drawing table master None form keys = tt
@@ -137,9 +135,7 @@ commands_are_drawing table (convert_keyset lock new in' out) = lock_each IsDrawi
 commands_are_drawing table (list_key_templates primitive) = tt
 commands_are_drawing table (use_keyset lock name form work out) = loaded_each IsDrawing open_drawing table lock name form _ (λ keys. fit_each IsDrawing closed _ (unfit keys (primitive_for work) table) _ (λ input. work_each IsDrawing closed table keys work input (λ plain ad next all. ((sealing table keys plain ad, refl), all)) (puts_output out) (shown_drawing out.hex out.file)))
 commands_are_drawing table (use_envelope lock name form template work out) = dek_each IsDrawing closed template _ (λ row. loaded_each IsDrawing open_drawing table lock name form _ (λ keys. fit_each IsDrawing closed _ (unfit keys Aead table) _ (scheme_each IsDrawing closed (scheme_at table Aead (url_made row)) _ (λ scheme input. envelope_each IsDrawing closed table keys scheme row work input (λ ad next all. ((enveloping table keys scheme row input ad, refl), all)) (λ plain ad next all. ((sealing table keys plain ad, refl), all)) (puts out) (put_drawing out)))))
-commands_are_drawing table (seal_stream lock name form ad out) = streams_drawing table lock name form _ (λ k. stream_drawing k ad out)
-commands_are_drawing table (open_stream lock name form ad out) = streams_drawing table lock name form _ (λ k. unstream_drawing k ad out)
-commands_are_drawing table (reseal_stream lock name form ad out) = streams_drawing table lock name form _ (λ k. restream_drawing k ad out)
+commands_are_drawing table (use_stream lock name form work ad out) = streams_drawing table lock name form _ (λ k. begun_drawing out (streaming.passes_stream work k ad out) (stream_drawing work ad out k))
 commands_are_drawing table (open_range lock name form ad range out) = streams_drawing table lock name form _ (λ k opened. range_each IsDrawing closed opened _ (put_drawing out))
 commands_are_drawing table (self_test seed lines) = counts_drawing (trial.self_test table seed lines) lines
 commands_are_drawing table (session lock name form out) = lock_each IsDrawing open_drawing table lock _ (λ master. under_each IsDrawing open_drawing origins.Keyset table master (record { file = Some name; form = form }) _ (session_drawing table master out))

@@ -4,12 +4,14 @@
 --   reads_input      the command reads standard input
 --   is_kept_off      a command is refused, since standard output is a terminal that may not show its output
 --   waits            a command says that it reads from a terminal
-use Rattle.std.specs.Prelude.{ℕ, List, ◌++◌, Bool, true, false, ◌&&◌, ◌||◌, not, Option, is_some, is_none, Result, Ok, Err, codes}
+use Rattle.std.specs.Prelude.{ℕ, List, Bool, true, false, ◌&&◌, ◌||◌, not, is_some, is_none, Result, Ok, Err, codes}
 use Rattle.tinkey_host.specs.declared.terminals.Terminals.{Terminals}
 use Rattle.tinkey_words.specs.declared.words.misuse.Misuse.{Misuse}
 use Rattle.tinkey_words.specs.declared.words.rows.Format.{Format}
 use Rattle.tinkey_words.specs.declared.words.rows.Format.TheVariants as formats
-use Rattle.tinkey_words.specs.Words.{Asked, AskedEnvelope, AskedWork, Lock, NewLock, Output, KeysetFile, as_taken, in_clear, under, create_keyset, edit_keyset, list_keyset, key_of, convert_keyset, list_key_templates, use_keyset, use_envelope, seal_stream, open_stream, reseal_stream, open_range, self_test, session, help, version, to_seal, to_open, to_dseal, to_dopen, to_reseal, to_dreseal, to_tag, to_verify, to_derive, to_eseal, to_eopen, to_ereseal, words_of}
+use Rattle.tinkey_words.specs.declared.words.request.StreamWork.{StreamWork}
+use Rattle.tinkey_words.specs.declared.words.request.StreamWork.TheVariants as streams
+use Rattle.tinkey_words.specs.Words.{Asked, AskedEnvelope, AskedWork, Lock, NewLock, Output, KeysetFile, as_taken, in_clear, under, create_keyset, edit_keyset, list_keyset, key_of, convert_keyset, list_key_templates, use_keyset, use_envelope, use_stream, open_range, self_test, session, help, version, to_seal, to_open, to_dseal, to_dopen, to_reseal, to_dreseal, to_tag, to_verify, to_derive, to_eseal, to_eopen, to_ereseal, words_of}
 
 -- this form of a keyset is text
 abbrev pub is_text : Format → Bool
@@ -43,6 +45,11 @@ opens_envelope (to_eopen ad) = true
 opens_envelope (to_eseal ad) = false
 opens_envelope to_ereseal = false
 
+abbrev pub opens_stream : StreamWork → Bool
+opens_stream streams.Open = true
+opens_stream streams.Seal = false
+opens_stream streams.Reseal = false
+
 -- bytes go to a file, or are shown in hexadecimal
 abbrev pub is_readable : Output → Bool
 is_readable out = is_some out.file || out.hex
@@ -54,9 +61,7 @@ suits_terminal (edit_keyset lock edit in' out) = shows_keyset (is_some lock) out
 suits_terminal (convert_keyset lock new in' out) = shows_keyset (stays_encrypted lock new) out
 suits_terminal (use_keyset lock keyset form work out) = is_readable out || gives_plaintext work
 suits_terminal (use_envelope lock keyset form template work out) = is_some out || opens_envelope work
-suits_terminal (seal_stream lock keyset form ad out) = is_some out
-suits_terminal (reseal_stream lock keyset form ad out) = is_some out
-suits_terminal (open_stream lock keyset form ad out) = true
+suits_terminal (use_stream lock keyset form work ad out) = is_some out || opens_stream work
 suits_terminal (open_range lock keyset form ad range out) = true
 suits_terminal (list_keyset lock in') = true
 suits_terminal (key_of lock keyset form kind ad) = true
@@ -73,9 +78,7 @@ reads_input (convert_keyset lock new in' out) = is_none in'.file
 reads_input (key_of lock keyset form kind ad) = true
 reads_input (use_keyset lock keyset form work out) = true
 reads_input (use_envelope lock keyset form template work out) = true
-reads_input (seal_stream lock keyset form ad out) = true
-reads_input (open_stream lock keyset form ad out) = true
-reads_input (reseal_stream lock keyset form ad out) = true
+reads_input (use_stream lock keyset form work ad out) = true
 reads_input (session lock keyset form out) = true
 reads_input (create_keyset lock template out) = false
 reads_input (list_key_templates primitive) = false

@@ -3,11 +3,13 @@
 ghost use Rattle.std.specs.Prelude.{◌≡◌, map, not, string_bytes};
 ghost use Rattle.tinkey_plans.specs.Status.{Wrote};
 ghost use Rattle.tinkey_words.specs.Words.{seen_command, seen_envelope, seen_lock, seen_new_lock, seen_output, seen_place, seen_work};
-ghost use Rattle.tinkey_host.specs.Terminals.{gives_plaintext, is_kept_off, is_readable, is_text, kept_off_lines, opens_envelope, reads_input, shows_keyset, stays_encrypted, suits_terminal, waiting_line, waits};
+ghost use Rattle.tinkey_host.specs.Terminals.{gives_plaintext, is_kept_off, is_readable, is_text, kept_off_lines, opens_envelope, opens_stream, reads_input, shows_keyset, stays_encrypted, suits_terminal, waiting_line, waits};
 
 use crate::not_text::write_lines;
 use tink_base::Sink;
-use tinkey_words::{Envelope, Format, KeysetFile, Master, NewLock, Output, Request, Work, parse};
+use tinkey_words::{
+    Envelope, Format, KeysetFile, Master, NewLock, Output, Request, StreamWork, Work, parse,
+};
 
 /// Which of the standard streams are terminals.
 #[derive(Clone, Copy, Debug, PartialEq, Eq)]
@@ -85,9 +87,7 @@ fn suits_terminal(request: &Request<'_>) -> bool
         } => shows_keyset(stays_encrypted(lock, new), output),
         Request::UseKeyset { work, output, .. } => is_readable(output) || gives_plaintext(work),
         Request::UseEnvelope { work, output, .. } => output.is_some() || opens_envelope(work),
-        Request::SealStream { output, .. } | Request::ResealStream { output, .. } => {
-            output.is_some()
-        }
+        Request::UseStream { work, output, .. } => output.is_some() || opens_stream(work),
         _ => true,
     }
 }
@@ -103,9 +103,7 @@ fn reads_input(request: &Request<'_>) -> bool
         Request::KeyOf { .. }
         | Request::UseKeyset { .. }
         | Request::UseEnvelope { .. }
-        | Request::SealStream { .. }
-        | Request::OpenStream { .. }
-        | Request::ResealStream { .. }
+        | Request::UseStream { .. }
         | Request::Session { .. } => true,
         _ => false,
     }
@@ -158,4 +156,11 @@ fn opens_envelope(work: Envelope<'_>) -> bool
     ensures { result ≡ opens_envelope (seen_envelope work.entry) }
 {
     matches!(work, Envelope::Open(_))
+}
+
+/// Whether a stream is opened.
+fn opens_stream(work: StreamWork) -> bool
+    ensures { result ≡ opens_stream work }
+{
+    matches!(work, StreamWork::Open)
 }

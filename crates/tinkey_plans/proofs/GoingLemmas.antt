@@ -22,6 +22,8 @@ use Rattle.tinkey_plans.specs.declared.status.Status.TheVariants as status
 use Rattle.tinkey_words.specs.declared.words.rows.Format.{Format}
 use Rattle.tinkey_words.specs.declared.words.rows.SealedForm.{SealedForm}
 use Rattle.tinkey_words.specs.declared.words.rows.SealedForm.TheVariants as sealed
+use Rattle.tinkey_words.specs.declared.words.request.StreamWork.{StreamWork}
+use Rattle.tinkey_words.specs.declared.words.request.StreamWork.TheVariants as works
 use Rattle.tinkey_plans.specs.Going.{DoneExactly, NoneRefuses}
 use Rattle.tinkey_plans.specs.Plan.{Answer, Of, Plan, Told, answer, collect_answer, create_answer, draw_answer, load_answer, look_answer, range_answer, pump_answer, refused, stream_status, talk_answer, limit_status, ends, writes, creates, looks, allocates, loads, reads_all, reads_front, ranges, draws, pumps, collects, exchanges}
 use Rattle.tinkey_plans.specs.KeyOf.{key_of_answer, stream_record_line, tells_front, tells_keys}
@@ -32,13 +34,13 @@ use Rattle.tinkey_selftest.specs.Trial as trial
 use Rattle.tinkey_selftest.specs.declared.counts.Counts.{Counts}
 use Rattle.tinkey_plans.specs.SelfTesting.{tells_counts}
 use Rattle.tinkey_plans.specs.Session.{finds_free, holds_session, saves_as}
-use Rattle.tinkey_plans.specs.Streaming.{begins_file, keys_for, opens_stream, passes_to, reseals_stream, seals_stream, with_keys}
+use Rattle.tinkey_plans.specs.Streaming.{begins_file, keys_for, passes_stream, passes_to, with_keys}
 use Rattle.tinkey_plans.specs.Streaming as streaming
 use Rattle.tinkey_plans.specs.FileRange.{Opened, FileRange, range_in}
 use Rattle.tinkey_session.proofs.Options.{clash}
 use Rattle.tinkey_session.specs.Talking.{Stop, goes, wants, passes, long_line, many_lines, Talk, Limit}
 use Rattle.tinkey_plans.specs.Commands.{command_plan}
-use Rattle.tinkey_words.specs.Words.{Asked, self_test, KeysetFile, primitive_for, create_keyset, edit_keyset, list_keyset, key_of, convert_keyset, list_key_templates, use_keyset, use_envelope, seal_stream, open_stream, reseal_stream, open_range, session, help, version}
+use Rattle.tinkey_words.specs.Words.{Asked, self_test, KeysetFile, primitive_for, create_keyset, edit_keyset, list_keyset, key_of, convert_keyset, list_key_templates, use_keyset, use_envelope, use_stream, open_range, session, help, version}
 use Rattle.tinkey_plans.proofs.EachLemmas.{AreAll, IsClosed, IsOpen, dek_each, envelope_each, scheme_each, range_each, edit_each, fit_each, lines_each, loaded_each, lock_each, locked_each, made_each, new_lock_each, row_each, under_each, work_each, written_under_each}
 use Rattle.tinkey_plans.specs.declared.unfit.UnfitKey.{UnfitKey}
 
@@ -202,14 +204,10 @@ begins_proper : (out : Option (List ℕ)) (next : Plan) → IsProper next → Is
 begins_proper None next proper = proper
 begins_proper (Some name) next proper = (λ e. cc, proper)
 
-seals_proper : (ad : List ℕ) (out : Option (List ℕ)) (keys : KeysForStreams) → IsProper (begins_file out (seals_stream keys ad out))
-seals_proper ad out keys = begins_proper out (seals_stream keys ad out) (λ made. made_each IsProper closed made _ (λ random. passes_proper out _))
-
-opens_proper : (ad : List ℕ) (out : Option (List ℕ)) (keys : KeysForStreams) → IsProper (begins_file out (opens_stream keys ad out))
-opens_proper ad out keys = begins_proper out (opens_stream keys ad out) (passes_proper out _)
-
-reseals_proper : (ad : List ℕ) (out : Option (List ℕ)) (keys : KeysForStreams) → IsProper (begins_file out (reseals_stream keys ad out))
-reseals_proper ad out keys = begins_proper out (reseals_stream keys ad out) (λ made. made_each IsProper closed made _ (λ random. passes_proper out _))
+stream_proper : (work : StreamWork) (ad : List ℕ) (out : Option (List ℕ)) (keys : KeysForStreams) → IsProper (passes_stream work keys ad out)
+stream_proper works.Seal ad out keys = λ made. made_each IsProper closed made _ (λ random. passes_proper out _)
+stream_proper works.Open ad out keys = passes_proper out _
+stream_proper works.Reseal ad out keys = λ made. made_each IsProper closed made _ (λ random. passes_proper out _)
 
 saves_proper : (table : Table) (master : Option Keys) (file : Option (List ℕ)) (form : Format) (keys : Keys) → IsProper (saves_as table master file form keys)
 saves_proper table master None form keys = tt
@@ -233,9 +231,7 @@ commands_are_proper table (convert_keyset lock new in' out) = (lock_each IsPrope
 commands_are_proper table (list_key_templates primitive) = tt
 commands_are_proper table (use_keyset lock name form work out) = (loaded_each IsProper open' table lock name form _ (λ keys. fit_each IsProper closed _ (unfit keys (primitive_for work) table) _ (λ e. cc, λ input. work_each IsProper closed table keys work input (λ plain ad next all. all) (puts_output out) (shown_proper out.hex out.file))))
 commands_are_proper table (use_envelope lock name form template work out) = (dek_each IsProper closed template _ (λ row. loaded_each IsProper open' table lock name form _ (λ keys. fit_each IsProper closed _ (unfit keys Aead table) _ (scheme_each IsProper closed (scheme_at table Aead (url_made row)) _ (λ scheme. (λ e. cc, λ input. envelope_each IsProper closed table keys scheme row work input (λ ad next all. all) (λ plain ad next all. all) (puts out) (put_proper out)))))))
-commands_are_proper table (seal_stream lock name form ad out) = loaded_each IsProper open' table lock name form _ (λ keys. stream_fit_proper _ (streams.stream_unfit keys) _ (stream_keys_proper (keys_for keys) _ (seals_proper ad out)))
-commands_are_proper table (open_stream lock name form ad out) = loaded_each IsProper open' table lock name form _ (λ keys. stream_fit_proper _ (streams.stream_unfit keys) _ (stream_keys_proper (keys_for keys) _ (opens_proper ad out)))
-commands_are_proper table (reseal_stream lock name form ad out) = loaded_each IsProper open' table lock name form _ (λ keys. stream_fit_proper _ (streams.stream_unfit keys) _ (stream_keys_proper (keys_for keys) _ (reseals_proper ad out)))
+commands_are_proper table (use_stream lock name form work ad out) = loaded_each IsProper open' table lock name form _ (λ keys. stream_fit_proper _ (streams.stream_unfit keys) _ (stream_keys_proper (keys_for keys) _ (λ k. begins_proper out (passes_stream work k ad out) (stream_proper work ad out k))))
 commands_are_proper table (open_range lock name form ad range out) = (loaded_each IsProper open' table lock name form _ (λ keys. stream_fit_proper _ (streams.stream_unfit keys) _ (stream_keys_proper (keys_for keys) _ (λ k. (λ e. cc, λ opened. range_each IsProper closed opened _ (put_proper out))))))
 commands_are_proper table (self_test seed lines) = (counts_proper (trial.self_test table seed lines) lines)
 commands_are_proper table (session lock name form out) = lock_each IsProper open' table lock _ (λ master. under_each IsProper open' origins.Keyset table master (record { file = Some name; form = form }) (holds_session table master out) (λ keys. free_proper out.file _ (λ last. saves_proper table master out.file out.form last)))

@@ -11,6 +11,8 @@ use Rattle.seal_wrap.specs.Enveloping.{url_made}
 use Rattle.wrapped_prims.specs.Fitness.{unfit}
 use Rattle.tinkey_words.specs.declared.words.rows.SealedForm.{SealedForm}
 use Rattle.tinkey_words.specs.declared.words.rows.SealedForm.TheVariants as sealed
+use Rattle.tinkey_words.specs.declared.words.request.StreamWork.{StreamWork}
+use Rattle.tinkey_words.specs.declared.words.request.StreamWork.TheVariants as works
 use Rattle.tinkey_plans.specs.Laws.{CommandsAreWhole}
 use Rattle.tinkey_plans.specs.declared.origin.Origin.TheVariants as origins
 use Rattle.tinkey_plans.specs.Plan.{writes, Plan}
@@ -26,7 +28,7 @@ use Rattle.segment_stream.specs.StreamKeys as streams
 use Rattle.tinkey_plans.specs.Streaming as streaming
 use Rattle.tinkey_selftest.specs.declared.counts.Counts.{Counts}
 use Rattle.tinkey_plans.specs.SelfTesting.{tells_counts}
-use Rattle.tinkey_words.specs.Words.{self_test, KeysetFile, primitive_for, create_keyset, edit_keyset, list_keyset, key_of, convert_keyset, list_key_templates, use_keyset, use_envelope, seal_stream, open_stream, reseal_stream, open_range, session, help, version}
+use Rattle.tinkey_words.specs.Words.{self_test, KeysetFile, primitive_for, create_keyset, edit_keyset, list_keyset, key_of, convert_keyset, list_key_templates, use_keyset, use_envelope, use_stream, open_range, session, help, version}
 use Rattle.tinkey_plans.specs.declared.unfit.UnfitKey.{UnfitKey}
 
 closed : IsClosed IsWhole
@@ -67,6 +69,12 @@ tells_whole sealed.Text ad keys = λ front. lines_each IsWhole closed (key_of_an
 tells_whole sealed.Envelope ad keys = λ front. lines_each IsWhole closed (key_of_answer keys (drop 4 front)) writes (λ lines. tt)
 tells_whole sealed.Stream ad keys = stream_fit_whole _ (streams.stream_unfit keys) _ (stream_keys_whole (streaming.keys_for keys) (tells_front ad keys writes) (λ those front. lines_each IsWhole closed (stream_record_line keys ad front) writes (λ lines. tt)))
 
+-- a stream that becomes a new file
+stream_whole : (work : StreamWork) (ad name : List ℕ) (keys : KeysForStreams) → IsWhole (streaming.begins_file (Some name) (streaming.passes_stream work keys ad (Some name)))
+stream_whole works.Seal ad name keys = λ made. made_each IsWhole closed made _ (λ random output. tt)
+stream_whole works.Open ad name keys = λ output. tt
+stream_whole works.Reseal ad name keys = λ made. made_each IsWhole closed made _ (λ random output. tt)
+
 pub commands_are_whole : CommandsAreWhole
 commands_are_whole table (create_keyset lock name out) = inl (row_each IsWhole closed (row_named name) name _ (λ row. lock_each IsWhole open' table lock _ (λ master. draw_whole (first row) _ (out_whole table master out))))
 commands_are_whole table (edit_keyset lock edit in' out) = inl (edit_each IsWhole closed edit _ (λ edit. lock_each IsWhole open' table lock _ (λ master. under_each IsWhole open' origins.In table master in' _ (λ keys. draw_whole (step keys edit) _ (out_whole table master out)))))
@@ -76,12 +84,8 @@ commands_are_whole table (convert_keyset lock new in' out) = inl (lock_each IsWh
 commands_are_whole table (list_key_templates primitive) = inl tt
 commands_are_whole table (use_keyset lock name form work out) = inl (loaded_each IsWhole open' table lock name form _ (λ keys. fit_each IsWhole closed _ (unfit keys (primitive_for work) table) _ (λ input. work_each IsWhole closed table keys work input (λ plain ad next all. all) (puts_output out) (shown_whole out.hex out.file))))
 commands_are_whole table (use_envelope lock name form template work out) = inl (dek_each IsWhole closed template _ (λ row. loaded_each IsWhole open' table lock name form _ (λ keys. fit_each IsWhole closed _ (unfit keys Aead table) _ (scheme_each IsWhole closed (scheme_at table Aead (url_made row)) _ (λ scheme. (λ input. envelope_each IsWhole closed table keys scheme row work input (λ ad next all. all) (λ plain ad next all. all) (puts out) (put_whole out)))))))
-commands_are_whole table (seal_stream lock name form ad None) = inr (inl tt)
-commands_are_whole table (seal_stream lock name form ad (Some out)) = inl (loaded_each IsWhole open' table lock name form _ (λ keys. stream_fit_whole _ (streams.stream_unfit keys) _ (stream_keys_whole (streaming.keys_for keys) _ (λ k made. made_each IsWhole closed made _ (λ random output. tt)))))
-commands_are_whole table (open_stream lock name form ad None) = inr (inl tt)
-commands_are_whole table (open_stream lock name form ad (Some out)) = inl (loaded_each IsWhole open' table lock name form _ (λ keys. stream_fit_whole _ (streams.stream_unfit keys) _ (stream_keys_whole (streaming.keys_for keys) _ (λ k output. tt))))
-commands_are_whole table (reseal_stream lock name form ad None) = inr (inl tt)
-commands_are_whole table (reseal_stream lock name form ad (Some out)) = inl (loaded_each IsWhole open' table lock name form _ (λ keys. stream_fit_whole _ (streams.stream_unfit keys) _ (stream_keys_whole (streaming.keys_for keys) _ (λ k made. made_each IsWhole closed made _ (λ random output. tt)))))
+commands_are_whole table (use_stream lock name form work ad None) = inr (inl tt)
+commands_are_whole table (use_stream lock name form work ad (Some out)) = inl (loaded_each IsWhole open' table lock name form _ (λ keys. stream_fit_whole _ (streams.stream_unfit keys) _ (stream_keys_whole (streaming.keys_for keys) _ (stream_whole work ad out))))
 commands_are_whole table (open_range lock name form ad range out) = inl (loaded_each IsWhole open' table lock name form _ (λ keys. stream_fit_whole _ (streams.stream_unfit keys) _ (stream_keys_whole (streaming.keys_for keys) _ (λ k opened. range_each IsWhole closed opened _ (put_whole out)))))
 commands_are_whole table (self_test seed lines) = inl (counts_whole (trial.self_test table seed lines) lines)
 commands_are_whole table (session lock name form out) = inr (inr tt)

@@ -22,10 +22,10 @@ use Rattle.tinkey_plans.specs.Help.{help_text, version_text}
 use Rattle.tinkey_plans.specs.Ranging.{range_output}
 use Rattle.tinkey_plans.specs.SelfTesting.{self_test_output}
 use Rattle.tinkey_plans.specs.Steps.{works_out, finds_template, finds_edit, makes_keyset, puts}
-use Rattle.tinkey_plans.specs.Streaming.{loads_stream_keys, begins_file, seals_stream, opens_stream, reseals_stream}
+use Rattle.tinkey_plans.specs.Streaming.{loads_stream_keys, begins_file, passes_stream}
 use Rattle.tinkey_plans.specs.Using.{puts_output, use_output}
 use Rattle.tinkey_words.specs.declared.words.misuse.Misuse.{Misuse}
-use Rattle.tinkey_words.specs.Words.{KeysetFile, AskedEdit, Asked, Lock, NewLock, create_keyset, edit_keyset, list_keyset, key_of, convert_keyset, list_key_templates, use_keyset, use_envelope, seal_stream, open_stream, reseal_stream, open_range, self_test, session, help, version, words_of}
+use Rattle.tinkey_words.specs.Words.{KeysetFile, AskedEdit, Asked, Lock, NewLock, create_keyset, edit_keyset, list_keyset, key_of, convert_keyset, list_key_templates, use_keyset, use_envelope, use_stream, open_range, self_test, session, help, version, words_of}
 
 -- create-keyset: a keyset of one new key, and the master that it is put under
 abbrev pub create_output : Table → Lock → List ℕ → (Option Keys → Keys → Plan) → Plan
@@ -89,12 +89,8 @@ command_plan table (use_keyset lock name form work out) =
     use_output table lock name form work (puts_output out)
 command_plan table (use_envelope lock name form template work out) =
     envelope_output table lock name form template work (puts out)
-command_plan table (seal_stream lock name form ad out) =
-    loads_stream_keys table lock name form (λ keys. begins_file out (seals_stream keys ad out))
-command_plan table (open_stream lock name form ad out) =
-    loads_stream_keys table lock name form (λ keys. begins_file out (opens_stream keys ad out))
-command_plan table (reseal_stream lock name form ad out) =
-    loads_stream_keys table lock name form (λ keys. begins_file out (reseals_stream keys ad out))
+command_plan table (use_stream lock name form work ad out) =
+    loads_stream_keys table lock name form (λ keys. begins_file out (passes_stream work keys ad out))
 command_plan table (open_range lock name form ad range out) =
     range_output table lock name form ad range (puts out)
 command_plan table (self_test seed lines) = self_test_output table seed lines writes

@@ -35,7 +35,7 @@ use Rattle.tinkey_plans.specs.FileRange.{GivesAtMost}
 use Rattle.tinkey_plans.specs.Wrapping.{is_json, wrapped_limit}
 use Rattle.tinkey_words.specs.declared.words.rows.Format.{Format}
 use Rattle.tinkey_words.specs.declared.words.rows.Format.TheVariants as formats
-use Rattle.tinkey_words.specs.Words.{Asked, AskedEnvelope, AskedRange, Lock, seal_stream, open_stream, reseal_stream, open_range, self_test, session, use_envelope, words_of}
+use Rattle.tinkey_words.specs.Words.{Asked, AskedEnvelope, AskedRange, Lock, open_range, self_test, session, use_envelope, use_stream, words_of}
 
 -- a keyset without a fault, each record of which can serve for the primitive
 pub record IsFit (table : Table) (primitive : Primitive) (keys : Keys) : Type 0 where
@@ -58,9 +58,7 @@ pub record FitKeysetsAnswer : Type 0 where
 
 -- a stream is asked for, and no new file for it
 abbrev pub IsStream : Asked → Type 0
-IsStream (seal_stream lock keyset form ad None) = Unit {0}
-IsStream (open_stream lock keyset form ad None) = Unit {0}
-IsStream (reseal_stream lock keyset form ad None) = Unit {0}
+IsStream (use_stream lock keyset form work ad None) = Unit {0}
 IsStream _ = ⊥
 
 -- a session is asked for

@@ -34,8 +34,7 @@ left_of_range (Some name) = lefts.NoFile
 
 -- what is left, by what is asked for
 abbrev pub left_by : Asked → Left
-left_by (asked.open_stream lock keyset form ad out) = left_in out
-left_by (asked.reseal_stream lock keyset form ad out) = left_in out
+left_by (asked.use_stream lock keyset form work ad out) = left_in out
 left_by (asked.open_range lock keyset form ad range out) = left_of_range out
 left_by other = lefts.Front
 

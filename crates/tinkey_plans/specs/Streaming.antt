@@ -24,6 +24,8 @@ use Rattle.tinkey_plans.specs.Plan.{Plan, ends, allocates, collects, creates, dr
 use Rattle.tinkey_plans.specs.Locks.{loads_locked}
 use Rattle.tinkey_plans.specs.Steps.{with_made}
 use Rattle.tinkey_words.specs.Words.{Lock}
+use Rattle.tinkey_words.specs.declared.words.request.StreamWork.{StreamWork}
+use Rattle.tinkey_words.specs.declared.words.request.StreamWork.TheVariants as works
 
 -- the rest goes on, or the record that gives no key for streams is refused, and named so by its place
 abbrev pub unless_unfit : (name : ℕ → UnfitKey) → Option (ℕ × StreamUnfit) → Plan → Plan
@@ -83,6 +85,12 @@ reseals_stream keys ad out =
     allocates (draws sealings (fill (keys.primary.derived + 7))
     (λ made. with_made made (λ random.
     passes_to out (resealing (ciphers_of ad keys.keys) cipher (header_of cipher random)))))
+
+-- the pass that does this work
+abbrev pub passes_stream : StreamWork → KeysForStreams → (ad : List ℕ) → (out : Option (List ℕ)) → Plan
+passes_stream works.Seal keys ad out = seals_stream keys ad out
+passes_stream works.Open keys ad out = opens_stream keys ad out
+passes_stream works.Reseal keys ad out = reseals_stream keys ad out
 
 -- the status of a keyset that gives no keys for streams, and of want of memory
 abbrev pub stream_keys_refusal : (name : ℕ → UnfitKey) → StreamKeysFault → Status

@@ -74,8 +74,7 @@ fn left_by(request: Request<'_>) -> Left
     ensures { result ≡ left_by (seen_command request.entry) }
 {
     match request {
-        Request::OpenStream { output, .. } => left_in(output),
-        Request::ResealStream { output, .. } => left_in(output),
+        Request::UseStream { output, .. } => left_in(output),
         Request::OpenRange { output, .. } => left_of_range(output),
         _ => Left::Front,
     }

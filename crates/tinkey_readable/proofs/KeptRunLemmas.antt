@@ -44,7 +44,7 @@ use Rattle.tinkey_readable.proofs.RunLemmas.{each_of, hands_within, template_row
 use Rattle.tinkey_readable.specs.KeptRuns.{CommandIdsStayDistinct, CreatedIdsAreDistinct, CreatedUnderLock, CreatesFirst, CreatesThis, DataStaysByCommands, Event, EventDraws, GivenBackByEnable, GivenBackUnderLock, HaveLed, HasLed, IsPut, KeptByCommands, KeptByItsIdAlone, HavePassed, OfAsked, OfEvent, OfEvents, OfLocked, Passes, PassesOn, PassesUnder, PassesWrapped, StaysIn, TookPlace, WrapsFirst, passed_by, passed_on, passed_wrapped}
 use Rattle.tinkey_readable.specs.Runs.{AreLocked, CreatesUnder, Does, DrawsBytes, GoesLocked, Handing, Hands, HandsOn, HandsUnder, HoldsBytes, ReadIsStored, Run, RunStep, Wraps, Written, bytes_at, keyset_of}
 use Rattle.tinkey_words.specs.declared.words.rows.Format.{Format}
-use Rattle.tinkey_words.specs.Words.{Asked, AskedEdit, Lock, KeysetFile, create_keyset, edit_keyset, list_keyset, key_of, convert_keyset, list_key_templates, use_keyset, use_envelope, seal_stream, open_stream, reseal_stream, open_range, self_test, session, help, version}
+use Rattle.tinkey_words.specs.Words.{Asked, AskedEdit, Lock, KeysetFile, create_keyset, edit_keyset, list_keyset, key_of, convert_keyset, list_key_templates, use_keyset, use_envelope, use_stream, open_range, self_test, session, help, version}
 
 -- ---- one run
 
@@ -65,9 +65,7 @@ run_keeps P table told (key_of lock name form kind ad) old new p each does = abs
 run_keeps P table told (list_key_templates primitive) old new p each does = absurd does
 run_keeps P table told (use_keyset lock name form work out) old new p each does = absurd does
 run_keeps P table told (use_envelope lock name form template work out) old new p each does = absurd does
-run_keeps P table told (seal_stream lock name form ad out) old new p each does = absurd does
-run_keeps P table told (open_stream lock name form ad out) old new p each does = absurd does
-run_keeps P table told (reseal_stream lock name form ad out) old new p each does = absurd does
+run_keeps P table told (use_stream lock name form work ad out) old new p each does = absurd does
 run_keeps P table told (open_range lock name form ad range out) old new p each does = absurd does
 run_keeps P table told (self_test seed lines) old new p each does = absurd does
 run_keeps P table told (help topic) old new p each does = absurd does

@@ -31,7 +31,7 @@ use Rattle.tinkey_plans.specs.Plan.{Answer, Told, answer, exchanges, writes}
 use Rattle.tinkey_plans.specs.Session.{holds_session, saves}
 use Rattle.tinkey_plans.specs.Using.{limit_for, works}
 use Rattle.tinkey_words.specs.declared.words.rows.Format.{Format}
-use Rattle.tinkey_words.specs.Words.{Asked, AskedWork, Lock, KeysetFile, create_keyset, edit_keyset, list_keyset, key_of, convert_keyset, list_key_templates, use_keyset, use_envelope, seal_stream, open_stream, reseal_stream, open_range, self_test, session, help, version, to_seal, to_open, to_dseal, to_dopen, to_reseal, to_dreseal, to_tag, to_verify, to_derive, primitive_for}
+use Rattle.tinkey_words.specs.Words.{Asked, AskedWork, Lock, KeysetFile, create_keyset, edit_keyset, list_keyset, key_of, convert_keyset, list_key_templates, use_keyset, use_envelope, use_stream, open_range, self_test, session, help, version, to_seal, to_open, to_dseal, to_dopen, to_reseal, to_dreseal, to_tag, to_verify, to_derive, primitive_for}
 use Rattle.ready_keysets.specs.Working.{answer as call_answer}
 use Rattle.ready_keysets.specs.declared.work.Work.{Work}
 use Rattle.tinkey_readable.proofs.CallLemmas.{call_dopens, call_opens, call_verifies}
@@ -106,9 +106,7 @@ session_asked (key_of lock name form kind ad) is = absurd is
 session_asked (list_key_templates primitive) is = absurd is
 session_asked (use_keyset lock name form work out) is = absurd is
 session_asked (use_envelope lock name form template work out) is = absurd is
-session_asked (seal_stream lock name form ad out) is = absurd is
-session_asked (open_stream lock name form ad out) is = absurd is
-session_asked (reseal_stream lock name form ad out) is = absurd is
+session_asked (use_stream lock name form work ad out) is = absurd is
 session_asked (open_range lock name form ad range out) is = absurd is
 session_asked (self_test seed lines) is = absurd is
 session_asked (help topic) is = absurd is

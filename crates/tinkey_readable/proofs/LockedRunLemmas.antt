@@ -54,7 +54,7 @@ use Rattle.tinkey_readable.specs.LockedRuns.{GivesUnder}
 use Rattle.tinkey_readable.specs.Runs.{AreLocked, CreatesUnder, Does, DrawsBytes, GoesLocked, GoesUnder, HoldsBytes, IsCreated, Keeps, LockedHanding, LocksStep, ReadIsStored, Run, StillOpens, HandsUnder, Wraps, Written, bytes_at, hands_under, keyset_of, read_in, session_under}
 use Rattle.tinkey_words.specs.declared.words.rows.Format.{Format}
 use Rattle.tinkey_words.specs.declared.words.rows.Format.TheVariants as formats
-use Rattle.tinkey_words.specs.Words.{Asked, AskedEdit, Master, KeysetFile, as_taken, convert_keyset, create_keyset, edit_keyset, help, in_clear, key_of, list_key_templates, list_keyset, open_range, open_stream, reseal_stream, seal_stream, self_test, session, under, use_envelope, use_keyset, version}
+use Rattle.tinkey_words.specs.Words.{Asked, AskedEdit, Master, KeysetFile, as_taken, convert_keyset, create_keyset, edit_keyset, help, in_clear, key_of, list_key_templates, list_keyset, open_range, self_test, session, under, use_envelope, use_keyset, use_stream, version}
 
 -- what is known of keysets, edits, sessions and wrapping
 pub record StepLaws : Type 0 where
@@ -305,9 +305,7 @@ step_by l (key_of lock name form kind ad) told master text put after over old x 
 step_by l (list_key_templates primitive) told master text put after over old x e w = clash e
 step_by l (use_keyset lock name form work out) told master text put after over old x e w = clash e
 step_by l (use_envelope lock name form template work out) told master text put after over old x e w = clash e
-step_by l (seal_stream lock name form ad out) told master text put after over old x e w = clash e
-step_by l (open_stream lock name form ad out) told master text put after over old x e w = clash e
-step_by l (reseal_stream lock name form ad out) told master text put after over old x e w = clash e
+step_by l (use_stream lock name form work ad out) told master text put after over old x e w = clash e
 step_by l (open_range lock name form ad range out) told master text put after over old x e w = clash e
 step_by l (self_test seed lines) told master text put after over old x e w = clash e
 step_by l (help topic) told master text put after over old x e w = clash e

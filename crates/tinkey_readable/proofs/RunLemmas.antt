@@ -51,7 +51,7 @@ use Rattle.tinkey_plans.specs.Steps.{input_limit, sealed_limit, keyset_limit, ta
 use Rattle.tinkey_plans.specs.declared.sealer.Sealer.{Sealer}
 use Rattle.tinkey_plans.specs.declared.sealer.Unopened.{Unopened}
 use Rattle.tinkey_plans.specs.Using.{as_drawn, limit_for, made_bytes, with_opened, with_verified, works, puts_output}
-use Rattle.tinkey_words.specs.Words.{Asked, AskedEdit, AskedWork, Output, KeysetFile, create_keyset, edit_keyset, list_keyset, key_of, as_taken, in_clear, under, convert_keyset, list_key_templates, use_keyset, use_envelope, seal_stream, open_stream, reseal_stream, open_range, self_test, session, to_seal, to_dseal, to_tag, primitive_for, help, version}
+use Rattle.tinkey_words.specs.Words.{Asked, AskedEdit, AskedWork, Output, KeysetFile, create_keyset, edit_keyset, list_keyset, key_of, as_taken, in_clear, under, convert_keyset, list_key_templates, use_keyset, use_envelope, use_stream, open_range, self_test, session, to_seal, to_dseal, to_tag, primitive_for, help, version}
 use Rattle.seal_wrap.specs.Sealings.{DsealingsFit, SealingsFit}
 use Rattle.tinkey_readable.proofs.ReachLemmas.{load_done, load_within, IsDoneAnswer, UsedKeys, behind, found_edit, made_done, put_done, taken_done, taken_within, used_done, used_reached, used_within}
 use Rattle.tinkey_readable.proofs.PutLemmas.{made_is, made_put, made_written, worked}
@@ -329,9 +329,7 @@ by_asked law binary json keeps keeps_stored turns sessions edited keep_sessions 
 by_asked law binary json keeps keeps_stored turns sessions edited keep_sessions table (list_key_templates primitive) told before after old h e done form read put_form put random is stored = clash e
 by_asked law binary json keeps keeps_stored turns sessions edited keep_sessions table (use_keyset lock name form' work out) told before after old h e done form read put_form put random is stored = clash e
 by_asked law binary json keeps keeps_stored turns sessions edited keep_sessions table (use_envelope lock name form' template work out) told before after old h e done form read put_form put random is stored = clash e
-by_asked law binary json keeps keeps_stored turns sessions edited keep_sessions table (seal_stream lock name form' ad out) told before after old h e done form read put_form put random is stored = clash e
-by_asked law binary json keeps keeps_stored turns sessions edited keep_sessions table (open_stream lock name form' ad out) told before after old h e done form read put_form put random is stored = clash e
-by_asked law binary json keeps keeps_stored turns sessions edited keep_sessions table (reseal_stream lock name form' ad out) told before after old h e done form read put_form put random is stored = clash e
+by_asked law binary json keeps keeps_stored turns sessions edited keep_sessions table (use_stream lock name form' work ad out) told before after old h e done form read put_form put random is stored = clash e
 by_asked law binary json keeps keeps_stored turns sessions edited keep_sessions table (open_range lock name form' ad range out) told before after old h e done form read put_form put random is stored = clash e
 by_asked law binary json keeps keeps_stored turns sessions edited keep_sessions table (self_test seed lines) told before after old h e done form read put_form put random is stored = clash e
 by_asked law binary json keeps keeps_stored turns sessions edited keep_sessions table (help topic) told before after old h e done form read put_form put random is stored = clash e
@@ -360,9 +358,7 @@ asked_within table (key_of lock name form kind ad) told bytes h e done read = cl
 asked_within table (list_key_templates primitive) told bytes h e done read = clash e
 asked_within table (use_keyset lock name form work out) told bytes h e done read = clash e
 asked_within table (use_envelope lock name form template work out) told bytes h e done read = clash e
-asked_within table (seal_stream lock name form ad out) told bytes h e done read = clash e
-asked_within table (open_stream lock name form ad out) told bytes h e done read = clash e
-asked_within table (reseal_stream lock name form ad out) told bytes h e done read = clash e
+asked_within table (use_stream lock name form work ad out) told bytes h e done read = clash e
 asked_within table (open_range lock name form ad range out) told bytes h e done read = clash e
 asked_within table (self_test seed lines) told bytes h e done read = clash e
 asked_within table (help topic) told bytes h e done read = clash e
@@ -395,9 +391,7 @@ done_edits sessions table told (key_of lock name form kind ad) old new does = ab
 done_edits sessions table told (list_key_templates primitive) old new does = absurd does
 done_edits sessions table told (use_keyset lock name form work out) old new does = absurd does
 done_edits sessions table told (use_envelope lock name form template work out) old new does = absurd does
-done_edits sessions table told (seal_stream lock name form ad out) old new does = absurd does
-done_edits sessions table told (open_stream lock name form ad out) old new does = absurd does
-done_edits sessions table told (reseal_stream lock name form ad out) old new does = absurd does
+done_edits sessions table told (use_stream lock name form work ad out) old new does = absurd does
 done_edits sessions table told (open_range lock name form ad range out) old new does = absurd does
 done_edits sessions table told (self_test seed lines) old new does = absurd does
 done_edits sessions table told (help topic) old new does = absurd does

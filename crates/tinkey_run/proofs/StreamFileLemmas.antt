@@ -20,10 +20,10 @@ use Rattle.tinkey_plans.specs.declared.status.Status.TheVariants as status
 use Rattle.tinkey_plans.specs.Ends.{World, Ends, IsLasting, pump_status, look_free, settled, draw_failed, draw_starved, collected, collect_refused, collect_unread, collect_unkept}
 use Rattle.tinkey_plans.specs.Plan.{Plan, allocates, collects, creates, draws, sealings, stream_status}
 use Rattle.tinkey_plans.specs.Steps.{Passes, status_of, with_made}
-use Rattle.tinkey_plans.specs.Streaming.{begins_file, passes_to}
-use Rattle.tinkey_run.specs.StreamFile.{Closes, kept_status, stream_plan}
-use Rattle.tinkey_run.specs.declared.streaming.StreamWork.{StreamWork}
-use Rattle.tinkey_run.specs.declared.streaming.StreamWork.TheVariants as works
+use Rattle.tinkey_plans.specs.Streaming.{begins_file, passes_stream, passes_to}
+use Rattle.tinkey_run.specs.StreamFile.{Closes, kept_status}
+use Rattle.tinkey_words.specs.declared.words.request.StreamWork.{StreamWork}
+use Rattle.tinkey_words.specs.declared.words.request.StreamWork.TheVariants as works
 
 -- ---- the draft is begun
 
@@ -238,8 +238,8 @@ behind_header_ends count part w source entropy filed (inr starved) = inr (unmove
 -- ---- the three plans
 
 pub filed_ends : {name : List ℕ} {mid last : StoreState} {before after : Option Draft} {passed r : Result (Unit {0}) Status} (work : StreamWork) (keys : KeysForStreams) (ad : List ℕ) (w : World) (source : SourceState) (entropy : EntropyState) → IsFiled name w.store mid last before after passed r
-    → Ends (stream_plan work keys ad None) (record w { sink = drafted_sink w.store before }) (status_of passed) (record w { source = source; sink = drafted_sink mid after; entropy = entropy })
-    → Ends (stream_plan work keys ad (Some name)) w (status_of r) (record w { source = source; store = last; entropy = entropy })
+    → Ends (passes_stream work keys ad None) (record w { sink = drafted_sink w.store before }) (status_of passed) (record w { source = source; sink = drafted_sink mid after; entropy = entropy })
+    → Ends (passes_stream work keys ad (Some name)) w (status_of r) (record w { source = source; store = last; entropy = entropy })
 filed_ends works.Seal keys ad w source entropy filed run =
     let cipher = cipher_of ad keys.primary in
     behind_header_ends (keys.primary.derived + 7) (λ random. sealing cipher (header_of cipher random)) w source entropy filed run

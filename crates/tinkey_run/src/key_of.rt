@@ -1,5 +1,5 @@
-//! key-of: the keys of a keyset under whose output prefix the input stands, for which nothing is opened; and the one
-//! under which it is opened as a stream (`stream_key.rt`).
+//! key-of: the keys of a keyset under whose output prefix the input stands, for which nothing is
+//! opened; and the one under which it is opened as a stream (`stream_key.rt`).
 
 ghost use Rattle.std.specs.Prelude.{◌≡◌, ◌+◌, ◌≤◌, ◌∷◌, ◌++◌, [], List, ℕ, IfOk, OnErr, OnOk, codes, drop, if◌then◌else◌, length, take};
 ghost use Rattle.std.specs.Fmt.{decimal};
@@ -26,7 +26,8 @@ use tink_base::{Bytes, Failed, NoMemory, RAW, Source, Store, TINK};
 use tinkey_plans::Status;
 use tinkey_words::{Datum, Format, Master, SealedForm};
 
-/// The lines of the keys under which the input stands, by the keyset in a file. A stream has this associated data.
+/// The lines of the keys under which the input stands, by the keyset in a file. A stream has this
+/// associated data.
 #[inline(never)]
 pub(crate) fn tell_keys<S: Source, D: Store>(
     alloc: Global,

@@ -147,7 +147,8 @@ fn keyset_under(
     }
 }
 
-/// Where the keyset in the file that `--in` gives comes from, or in standard input if there is none.
+/// Where the keyset in the file that `--in` gives comes from, or in standard input if there is
+/// none.
 fn origin_of(file: Option<&str>) -> Origin
     ensures { result ≡ origin_of Origin.In (seen_name file.entry) }
 {

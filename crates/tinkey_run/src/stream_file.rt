@@ -10,12 +10,12 @@ ghost use Rattle.tink_base.specs.Pieces.{IsDraft, draft_name, drafted_sink, empt
 ghost use Rattle.tinkey_plans.specs.Ends.{World};
 ghost use Rattle.tinkey_plans.specs.Plan.{creates};
 ghost use Rattle.tinkey_plans.specs.Steps.{Finishes, Passes};
-ghost use Rattle.tinkey_plans.specs.Streaming.{begins_file};
+ghost use Rattle.tinkey_plans.specs.Streaming.{begins_file, passes_stream};
 ghost use Rattle.tinkey_plans.specs.declared.status.Status.TheVariants as status;
-ghost use Rattle.tinkey_run.specs.StreamFile.{Closes, kept_status, stream_plan};
+ghost use Rattle.tinkey_run.specs.StreamFile.{Closes, kept_status};
 ghost use Rattle.tinkey_words.specs.Words.{seen_datum};
 
-use crate::streaming::{StreamWork, pass_stream};
+use crate::streaming::pass_stream;
 use segment_stream::StreamKeys;
 use std::alloc::Global;
 use std::marker::Brand;
@@ -23,7 +23,7 @@ use tink_base::{
     Begun, Created, DraftLoan, DraftSink, Entropy, Lent, PieceStore, Source, StoreError,
 };
 use tinkey_plans::Status;
-use tinkey_words::Datum;
+use tinkey_words::{Datum, StreamWork};
 
 /// Does the work on the input, and puts the output into a new file of this name. The name must be
 /// free: that is looked up before anything is drawn or read.
@@ -41,7 +41,7 @@ pub(crate) fn put_into_file<S: Source, E: Entropy, D: PieceStore>(
     requires sound { AreSound keys.now }
     ensures { (w : World) → Finishes
         (begins_file (Some name.now)
-        (stream_plan work keys.now (seen_datum ad.entry) (Some name.now)))
+        (passes_stream work keys.now (seen_datum ad.entry) (Some name.now)))
         (record w {
           source = S.state source.old;
           entropy = E.state entropy.old;
@@ -88,7 +88,7 @@ fn pass_into_draft<S: Source, E: Entropy, D: PieceStore>(
     requires sound { AreSound keys.now }
     requires begun { IsSome (D.draft store.old) }
     ensures finishes { (w : World) → Finishes
-        (stream_plan work keys.now (seen_datum ad.entry) None)
+        (passes_stream work keys.now (seen_datum ad.entry) None)
         (record w {
           source = S.state source.old;
           sink = drafted_sink (D.state store.old) (D.draft store.old);
@@ -131,7 +131,7 @@ fn pass_into_lent<'s, S: Source, E: Entropy, D: PieceStore, L: Lent>(
     ensures given { (D.state result.0.store.now).given ≡ L.given }
     ensures name { draft_name (D.draft result.0.store.now) ≡ Some L.name }
     ensures finishes { (w : World) → Finishes
-        (stream_plan work keys.now (seen_datum ad.entry) None)
+        (passes_stream work keys.now (seen_datum ad.entry) None)
         (record w {
           source = S.state source.old;
           sink = drafted_sink (D.state loan.entry.store.now) (D.draft loan.entry.store.now);

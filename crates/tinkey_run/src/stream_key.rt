@@ -18,7 +18,8 @@ use tink_base::{Bytes, ENABLED, Source};
 use tinkey_plans::{Status, stream_keys_status};
 use tinkey_words::Datum;
 
-/// The line of the record under whose key the input is opened as a stream, with this associated data.
+/// The line of the record under whose key the input is opened as a stream, with this associated
+/// data.
 #[inline(never)]
 pub(crate) fn tell_stream<S: Source>(
     alloc: Global,

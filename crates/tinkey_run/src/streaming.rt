@@ -5,8 +5,7 @@ ghost use Rattle.segment_stream.specs.KeysModel.{AreSound};
 ghost use Rattle.segment_stream.specs.PumpModels.{pump_result};
 ghost use Rattle.tinkey_plans.specs.Ends.{World, pump_status, world};
 ghost use Rattle.tinkey_plans.specs.Steps.{Finishes, Passes, status_of};
-ghost use Rattle.tinkey_plans.specs.Streaming.{begins_file, loads_stream_keys, seals_stream, opens_stream, reseals_stream};
-ghost use Rattle.tinkey_run.specs.StreamFile.{stream_plan};
+ghost use Rattle.tinkey_plans.specs.Streaming.{begins_file, loads_stream_keys, opens_stream, passes_stream, reseals_stream, seals_stream};
 ghost use Rattle.tinkey_words.specs.Words.{seen_datum, seen_lock, seen_name};
 
 use crate::locks::load_locked;
@@ -17,18 +16,7 @@ use segment_stream::{OpenPumpFault, Opener, SealPumpFault, Sealer, SealerFault, 
 use std::alloc::Global;
 use tink_base::{Entropy, PieceStore, Sink, Source, Store};
 use tinkey_plans::{Status, stream_keys_status};
-use tinkey_words::{Datum, Format, Master};
-
-/// What is done with a stream.
-#[derive(Clone, Copy)]
-pub(crate) enum StreamWork {
-    /// It is sealed.
-    Seal,
-    /// It is opened.
-    Open,
-    /// It is opened, and its plaintext sealed.
-    Reseal,
-}
+use tinkey_words::{Datum, Format, Master, StreamWork};
 
 /// The keys for streams of the keyset in the file of this name.
 #[inline(never)]
@@ -69,7 +57,7 @@ pub(crate) fn put_stream<S: Source, K: Sink, E: Entropy, D: PieceStore>(
     requires sound { AreSound keys.now }
     ensures { Finishes
         (begins_file (seen_name out.entry)
-        (stream_plan work keys.now (seen_datum ad.entry) (seen_name out.entry)))
+        (passes_stream work keys.now (seen_datum ad.entry) (seen_name out.entry)))
         (world (S.state source.old) (K.state sink.old) (D.state store.old) (E.state entropy.old))
         result
         (world (S.state source.new) (K.state sink.new) (D.state store.new) (E.state entropy.new)) }
@@ -92,7 +80,7 @@ pub(crate) fn pass_stream<S: Source, K: Sink, E: Entropy>(
 ) -> Result<(), Status>
     requires sound { AreSound keys.now }
     ensures finishes { (w : World) → Finishes
-        (stream_plan work keys.now (seen_datum ad.entry) None)
+        (passes_stream work keys.now (seen_datum ad.entry) None)
         (record w {
           source = S.state source.old;
           sink = K.state sink.old;

@@ -13,8 +13,8 @@ use key_msgs::{Primitive, TEMPLATE_COUNT, Template, template_at};
 use tink_base::{Failed, Sink, write_all};
 use tinkey_plans::Status;
 
-/// list-key-templates: the names of the templates, one a line, or of those whose keys have this primitive. No memory
-/// is taken.
+/// list-key-templates: the names of the templates, one a line, or of those whose keys have this
+/// primitive. No memory is taken.
 #[inline(never)]
 pub(crate) fn list_templates<K: Sink>(
     primitive: Option<Primitive>,

@@ -20,7 +20,7 @@ use crate::output::{finish_output, shown, write_output};
 use crate::ranging::open_file_range;
 use crate::self_testing::tell_self_test;
 use crate::session::answer_lines;
-use crate::streaming::{StreamWork, load_stream_keys, put_stream};
+use crate::streaming::{load_stream_keys, put_stream};
 use crate::templates::list_templates;
 use crate::using::use_keyset;
 use managers::{KeyTable, Managers};
@@ -189,65 +189,16 @@ fn dispatch<S: Source, K: Sink, E: Lookahead, D: PieceStore>(
             );
             finish_output(alloc, output, sink, store, done)
         }
-        Request::SealStream {
+        Request::UseStream {
             lock,
             keyset,
             form,
+            work,
             ad,
             output,
         } => {
             let keys = load_stream_keys(alloc, managers, lock, keyset, form, store)?;
-            put_stream(
-                alloc,
-                StreamWork::Seal,
-                &keys,
-                ad,
-                output,
-                source,
-                sink,
-                entropy,
-                store,
-            )
-        }
-        Request::OpenStream {
-            lock,
-            keyset,
-            form,
-            ad,
-            output,
-        } => {
-            let keys = load_stream_keys(alloc, managers, lock, keyset, form, store)?;
-            put_stream(
-                alloc,
-                StreamWork::Open,
-                &keys,
-                ad,
-                output,
-                source,
-                sink,
-                entropy,
-                store,
-            )
-        }
-        Request::ResealStream {
-            lock,
-            keyset,
-            form,
-            ad,
-            output,
-        } => {
-            let keys = load_stream_keys(alloc, managers, lock, keyset, form, store)?;
-            put_stream(
-                alloc,
-                StreamWork::Reseal,
-                &keys,
-                ad,
-                output,
-                source,
-                sink,
-                entropy,
-                store,
-            )
+            put_stream(alloc, work, &keys, ad, output, source, sink, entropy, store)
         }
         Request::OpenRange {
             lock,

@@ -28,7 +28,7 @@ use Rattle.tinkey_words.specs.declared.words.names.OptionName.TheVariants as opt
 use Rattle.hex.specs.Hex.{is_hex_digit}
 use Rattle.tinkey_words.specs.Names.{row_of, option_row, form_for, rival, needs, for_streams, primitive_of}
 use Rattle.tinkey_words.specs.Rows.{same, temporary, datum_limit, most_lines, most_range, is_flag, is_new_file, dash, is_hex_form, is_named_file}
-use Rattle.tinkey_words.specs.Words.{Asked, Values, asked_by, convert_keyset, help, open_range, open_stream, primitive_for, reseal_stream, seal_stream, use_envelope, use_keyset, version, misuse_at, words_of}
+use Rattle.tinkey_words.specs.Words.{Asked, Values, asked_by, convert_keyset, help, open_range, primitive_for, use_envelope, use_keyset, use_stream, version, misuse_at, words_of}
 
 -- where the word of a place is at fault, it is so, and for the same reason, whatever words stand behind it
 abbrev pub PlacesAreDecided : Type 0
@@ -112,9 +112,7 @@ IsValue forms.Flag value = value ≡ []
 abbrev pub NeedsKeys : Asked → Primitive → Type 0
 NeedsKeys (use_keyset lock name form work out) primitive = primitive_for work ≡ primitive
 NeedsKeys (use_envelope lock name form template work out) primitive = Aead ≡ primitive
-NeedsKeys (seal_stream lock name form ad out) primitive = Stream ≡ primitive
-NeedsKeys (open_stream lock name form ad out) primitive = Stream ≡ primitive
-NeedsKeys (reseal_stream lock name form ad out) primitive = Stream ≡ primitive
+NeedsKeys (use_stream lock name form work ad out) primitive = Stream ≡ primitive
 NeedsKeys (open_range lock name form ad range out) primitive = Stream ≡ primitive
 NeedsKeys (convert_keyset lock new in' out) primitive = Aead ≡ primitive
 NeedsKeys _ primitive = ⊥
@@ -123,9 +121,7 @@ NeedsKeys _ primitive = ⊥
 abbrev pub UsesKeys : Asked → Type 0
 UsesKeys (use_keyset lock name form work out) = Unit {0}
 UsesKeys (use_envelope lock name form template work out) = Unit {0}
-UsesKeys (seal_stream lock name form ad out) = Unit {0}
-UsesKeys (open_stream lock name form ad out) = Unit {0}
-UsesKeys (reseal_stream lock name form ad out) = Unit {0}
+UsesKeys (use_stream lock name form work ad out) = Unit {0}
 UsesKeys (open_range lock name form ad range out) = Unit {0}
 UsesKeys _ = ⊥
 

@@ -34,6 +34,8 @@ use Rattle.tinkey_words.specs.declared.words.request.Datum.{Datum}
 use Rattle.tinkey_words.specs.declared.words.request.Datum.TheVariants as data'
 use Rattle.tinkey_words.specs.declared.words.request.Work.{Work}
 use Rattle.tinkey_words.specs.declared.words.request.Work.TheVariants as works
+use Rattle.tinkey_words.specs.declared.words.request.StreamWork.{StreamWork}
+use Rattle.tinkey_words.specs.declared.words.request.StreamWork.TheVariants as streams
 use Rattle.tinkey_words.specs.declared.words.request.Envelope.{Envelope}
 use Rattle.tinkey_words.specs.declared.words.request.Envelope.TheVariants as envelopes
 use Rattle.tinkey_words.specs.declared.words.help.First.{First}
@@ -155,15 +157,10 @@ pub data Asked : Type 0 where
   -- the same by data keys, which are of the template of this name, under such keys
   use_envelope : (lock : Lock) (keyset : List ℕ) (form : Format) (template : List ℕ)
       (work : AskedEnvelope) (out : Option (List ℕ)) → Asked
-  -- the input as a stream, sealed or opened by such a keyset, with this associated data, and the new file
-  -- that it becomes, whole or not at all
-  seal_stream : (lock : Lock) (keyset : List ℕ) (form : Format) (ad : List ℕ) (out : Option (List ℕ))
-      → Asked
-  open_stream : (lock : Lock) (keyset : List ℕ) (form : Format) (ad : List ℕ) (out : Option (List ℕ))
-      → Asked
-  -- the same, opened, and the plaintext sealed, both with this associated data
-  reseal_stream : (lock : Lock) (keyset : List ℕ) (form : Format) (ad : List ℕ) (out : Option (List ℕ))
-      → Asked
+  -- work on the input as a stream, by such keys, with this associated data, and the new file that its output
+  -- becomes, whole or not at all
+  use_stream : (lock : Lock) (keyset : List ℕ) (form : Format) (work : StreamWork) (ad : List ℕ)
+      (out : Option (List ℕ)) → Asked
   -- a range of the stream in a file, opened by such a keyset, with this associated data, and the new file
   -- that it becomes
   open_range : (lock : Lock) (keyset : List ℕ) (form : Format) (ad : List ℕ) (range : AskedRange)
@@ -175,6 +172,19 @@ pub data Asked : Type 0 where
   -- what a topic has to say, and the version
   help : (topic : Topic) → Asked
   version : Asked
+
+-- The input is sealed as a stream, opened as one, or opened and its plaintext sealed, both with this associated data.
+abbrev pub seal_stream : (lock : Lock) (keyset : List ℕ) (form : Format) (ad : List ℕ)
+    (out : Option (List ℕ)) → Asked
+seal_stream lock keyset form ad out = use_stream lock keyset form streams.Seal ad out
+
+abbrev pub open_stream : (lock : Lock) (keyset : List ℕ) (form : Format) (ad : List ℕ)
+    (out : Option (List ℕ)) → Asked
+open_stream lock keyset form ad out = use_stream lock keyset form streams.Open ad out
+
+abbrev pub reseal_stream : (lock : Lock) (keyset : List ℕ) (form : Format) (ad : List ℕ)
+    (out : Option (List ℕ)) → Asked
+reseal_stream lock keyset form ad out = use_stream lock keyset form streams.Reseal ad out
 
 -- A keyset is sealed under the master in the file of this name; and one that was so is opened.
 abbrev pub wrap_keyset : (master : List ℕ) (form : Format) (in' out : KeysetFile) → Asked
@@ -314,6 +324,12 @@ enveloped work values =
     use_envelope (lock values) (text (values options.Keyset)) (form_in (values options.KeysetFormat))
     (text (values options.DekTemplate)) work (values options.Out)
 
+-- work on a stream
+abbrev pub streamed : StreamWork → Values → Asked
+streamed work values =
+    use_stream (lock values) (text (values options.Keyset)) (form_in (values options.KeysetFormat))
+    work (ad values) (values options.Out)
+
 -- a length of a range; one that is too long is none
 abbrev pub range_length : ℕ → ℕ
 range_length n = if nat_le n most_range then n else 0
@@ -347,15 +363,9 @@ asked_with commands.Dseal values = worked (to_dseal (ad values)) values
 asked_with commands.Dopen values = worked (to_dopen (ad values)) values
 asked_with commands.Reseal values = worked (to_reseal (ad values)) values
 asked_with commands.Dreseal values = worked (to_dreseal (ad values)) values
-asked_with commands.Sseal values =
-    seal_stream (lock values) (text (values options.Keyset)) (form_in (values options.KeysetFormat))
-    (ad values) (values options.Out)
-asked_with commands.Sopen values =
-    open_stream (lock values) (text (values options.Keyset)) (form_in (values options.KeysetFormat))
-    (ad values) (values options.Out)
-asked_with commands.Sreseal values =
-    reseal_stream (lock values) (text (values options.Keyset)) (form_in (values options.KeysetFormat))
-    (ad values) (values options.Out)
+asked_with commands.Sseal values = streamed streams.Seal values
+asked_with commands.Sopen values = streamed streams.Open values
+asked_with commands.Sreseal values = streamed streams.Reseal values
 asked_with commands.Tag values = worked to_tag values
 asked_with commands.Verify values =
     worked (to_verify (datum_of_hex (text (values options.TagHex)))) values
@@ -709,12 +719,8 @@ seen_command (asks.ConvertKeyset lock new input output) =
 seen_command (asks.ListKeyTemplates primitive) = list_key_templates primitive
 seen_command (asks.UseKeyset lock keyset form work output) =
     use_keyset (seen_lock lock) keyset.now form (seen_work work) (seen_output output)
-seen_command (asks.SealStream lock keyset form ad output) =
-    seal_stream (seen_lock lock) keyset.now form (seen_datum ad) (seen_name output)
-seen_command (asks.OpenStream lock keyset form ad output) =
-    open_stream (seen_lock lock) keyset.now form (seen_datum ad) (seen_name output)
-seen_command (asks.ResealStream lock keyset form ad output) =
-    reseal_stream (seen_lock lock) keyset.now form (seen_datum ad) (seen_name output)
+seen_command (asks.UseStream lock keyset form work ad output) =
+    use_stream (seen_lock lock) keyset.now form work (seen_datum ad) (seen_name output)
 seen_command (asks.OpenRange lock keyset form ad range output) =
     open_range (seen_lock lock) keyset.now form (seen_datum ad) (seen_range range) (seen_name output)
 seen_command (asks.Session lock keyset form output) =

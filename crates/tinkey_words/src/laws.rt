@@ -19,9 +19,9 @@ pub fn dashes_are_left_out()
     ensures { DashesAreLeftOut }
 {}
 
-/// A command whose row has a primitive asks for keys of it, of the keyset that it uses or of the master under which
-/// it wraps or unwraps one; and each command that uses the keys of a keyset for one primitive has it in its row. So
-/// `list-key-templates --for` names what serves the command.
+/// A command whose row has a primitive asks for keys of it, of the keyset that it uses or of the
+/// master under which it wraps or unwraps one; and each command that uses the keys of a keyset for
+/// one primitive has it in its row. So `list-key-templates --for` names what serves the command.
 pub fn keys_are_asked()
     ensures { KeysAreAsked }
 {}

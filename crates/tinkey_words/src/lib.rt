@@ -9,5 +9,6 @@ mod words;
 
 pub use words::{
     CommandName, DATUM_LIMIT, Datum, Envelope, Format, KeysetFile, Master, Misfit, Misuse, NewLock,
-    OptionName, Output, Range, Request, SealedForm, Topic, ValueForm, Work, command_named, parse,
+    OptionName, Output, Range, Request, SealedForm, StreamWork, Topic, ValueForm, Work,
+    command_named, parse,
 };

@@ -25,7 +25,7 @@ use names::NEEDS;
 pub use names::{CommandName, OptionName};
 use options::{Options, erase, relocked};
 pub use range::Range;
-pub use request::{Datum, Envelope, KeysetFile, Output, Request, Work};
+pub use request::{Datum, Envelope, KeysetFile, Output, Request, StreamWork, Work};
 use rows::is_dash;
 pub use rows::{DATUM_LIMIT, Format, SealedForm, ValueForm, command_named};
 use tinkey_cmds::KeysetEdit as Edit;
@@ -257,27 +257,9 @@ fn command_with<'a>(command: CommandName, given: &Options<'a>) -> Request<'a>
         CommandName::Dopen => given.worked(Work::Dopen(given.ad())),
         CommandName::Reseal => given.worked(Work::Reseal(given.ad())),
         CommandName::Dreseal => given.worked(Work::Dreseal(given.ad())),
-        CommandName::Sseal => Request::SealStream {
-            lock: given.lock(),
-            keyset: given.text(OptionName::Keyset),
-            form: given.form(OptionName::KeysetFormat),
-            ad: given.ad(),
-            output: given.value(OptionName::Out),
-        },
-        CommandName::Sopen => Request::OpenStream {
-            lock: given.lock(),
-            keyset: given.text(OptionName::Keyset),
-            form: given.form(OptionName::KeysetFormat),
-            ad: given.ad(),
-            output: given.value(OptionName::Out),
-        },
-        CommandName::Sreseal => Request::ResealStream {
-            lock: given.lock(),
-            keyset: given.text(OptionName::Keyset),
-            form: given.form(OptionName::KeysetFormat),
-            ad: given.ad(),
-            output: given.value(OptionName::Out),
-        },
+        CommandName::Sseal => given.streamed(StreamWork::Seal),
+        CommandName::Sopen => given.streamed(StreamWork::Open),
+        CommandName::Sreseal => given.streamed(StreamWork::Reseal),
         CommandName::Tag => given.worked(Work::Tag),
         CommandName::Verify => given.worked(Work::Verify(Datum::Hex(given.text(
             OptionName::TagHex,

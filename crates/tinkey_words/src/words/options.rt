@@ -2,13 +2,13 @@
 
 ghost use Rattle.std.specs.Prelude.{◌≡◌, ◌<◌, ◌≤◌, ◌^◌, Some, length, slice_set, None};
 ghost use Rattle.tinkey_words.specs.declared.words.names.OptionName.TheVariants.{As, Lines};
-ghost use Rattle.tinkey_words.specs.Words.{lines_in, is_barred, bar, no_options, text, number, id, template, ad, edited, enveloped, worked, seen_command, seen_datum, seen_edit, seen_envelope, seen_name, seen_options, seen_range, seen_work, offset, range, range_length, form_in, sealed_in, taken_from, put_to, seen_place, output_in, seen_output, convert_keyset, lock, lock_of, new_lock, relocked, seen_lock, seen_new_lock, served};
+ghost use Rattle.tinkey_words.specs.Words.{lines_in, is_barred, bar, no_options, text, number, id, template, ad, edited, enveloped, streamed, worked, seen_command, seen_datum, seen_edit, seen_envelope, seen_name, seen_options, seen_range, seen_work, offset, range, range_length, form_in, sealed_in, taken_from, put_to, seen_place, output_in, seen_output, convert_keyset, lock, lock_of, new_lock, relocked, seen_lock, seen_new_lock, served};
 
 use super::names::OPTION_COUNT;
 use super::rows::{MOST_RANGE, format_named, offset_in, primitive_named, sealed_form_named};
 use super::{
     CommandName, Datum, Envelope, Format, KeysetFile, Master, Misfit, NewLock, OptionName, Output,
-    Range, Request, SealedForm, Work,
+    Range, Request, SealedForm, StreamWork, Work,
 };
 use key_msgs::Primitive;
 use tink_base::number_in;
@@ -226,6 +226,20 @@ impl<'a> Options<'a> {
             form: self.form(OptionName::KeysetFormat),
             template: self.text(OptionName::DekTemplate),
             work,
+            output: self.value(OptionName::Out),
+        }
+    }
+
+    /// Work on a stream by the keys of a keyset.
+    pub(super) fn streamed(&self, work: StreamWork) -> Request<'a>
+        ensures { seen_command result ≡ streamed work (seen_options self.now).values }
+    {
+        Request::UseStream {
+            lock: self.lock(),
+            keyset: self.text(OptionName::Keyset),
+            form: self.form(OptionName::KeysetFormat),
+            work,
+            ad: self.ad(),
             output: self.value(OptionName::Out),
         }
     }

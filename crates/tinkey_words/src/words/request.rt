@@ -76,43 +76,19 @@ pub enum Request<'a> {
         /// Where it is put.
         output: Output<'a>,
     },
-    /// Seal the input as a stream.
-    SealStream {
+    /// Work on the input as a stream, by the keys of a keyset.
+    UseStream {
         /// The master of the keyset, if it lies under one.
         lock: Option<Master<'a>>,
         /// The file of the keyset.
         keyset: &'a str,
         /// The form of the keyset.
         form: Format,
+        /// What is done.
+        work: StreamWork,
         /// The associated data.
         ad: Datum<'a>,
-        /// The new file for the stream, there once it is whole, or none for standard output.
-        output: Option<&'a str>,
-    },
-    /// Open the input as a stream.
-    OpenStream {
-        /// The master of the keyset, if it lies under one.
-        lock: Option<Master<'a>>,
-        /// The file of the keyset.
-        keyset: &'a str,
-        /// The form of the keyset.
-        form: Format,
-        /// The associated data.
-        ad: Datum<'a>,
-        /// The new file for the plaintext, there once it is whole, or none for standard output.
-        output: Option<&'a str>,
-    },
-    /// Open the input as a stream, and seal the plaintext, both with this associated data.
-    ResealStream {
-        /// The master of the keyset, if it lies under one.
-        lock: Option<Master<'a>>,
-        /// The file of the keyset.
-        keyset: &'a str,
-        /// The form of the keyset.
-        form: Format,
-        /// The associated data.
-        ad: Datum<'a>,
-        /// The new file for the stream, there once it is whole, or none for standard output.
+        /// The new file for the output, there once it is whole, or none for standard output.
         output: Option<&'a str>,
     },
     /// Open a range of the stream in a file.
@@ -204,6 +180,17 @@ pub enum Work<'a> {
     Verify(Datum<'a>),
     /// Derive this many bytes from it.
     Derive(u32),
+}
+
+/// What is done with a stream.
+#[derive(Clone, Copy)]
+pub enum StreamWork {
+    /// Seal it.
+    Seal,
+    /// Open it.
+    Open,
+    /// Open it, and seal the plaintext, both with the same associated data.
+    Reseal,
 }
 
 /// Bytes given in a word.

@@ -1,7 +1,6 @@
 use Rattle.std.proofs.Common.{Some}
-use Rattle.tinkey_plans.specs.Streaming.{begins_file}
+use Rattle.tinkey_plans.specs.Streaming.{begins_file, passes_stream}
 use Rattle.tinkey_words.specs.Words.{seen_datum}
-use Rattle.tinkey_run.specs.StreamFile.{stream_plan}
 use Rattle.tinkey_run.proofs.LockLemmas.{finished_there, finishes_then}
 use Rattle.tinkey_run.proofs.StreamFileLemmas.{filed_ends}
 use Rattle.tinkey_run.proofs.stream_file.put_into_file.Goals as goal
@@ -10,7 +9,7 @@ pub returns-in_err-begin_file : goal.returns-in_err-begin_file
 returns-in_err-begin_file g c = λ w.
     let old = record w { source = g.S.Source.state c.args.source.now; entropy = g.E.Entropy.state c.args.entropy.now } in
     let out = Some c.args.name.now in
-    finished_there {A = Unit {0}} (λ next. begins_file out (next tt)) (λ begun. stream_plan c.args.work c.args.keys.now (seen_datum c.args.ad) out) _ _ _ _ c.from_residual.ensures.1 (c.in_err-begin_file.ensures.passes old)
+    finished_there {A = Unit {0}} (λ next. begins_file out (next tt)) (λ begun. passes_stream c.args.work c.args.keys.now (seen_datum c.args.ad) out) _ _ _ _ c.from_residual.ensures.1 (c.in_err-begin_file.ensures.passes old)
 
 pub returns : goal.returns
 returns g c = λ w.
@@ -22,7 +21,7 @@ returns g c = λ w.
     let new = record mid { source = source; store = g.D.Store.state c.close_file.new.store; entropy = entropy } in
     let out = Some c.args.name.now in
     let passed = c.pass_into_draft-passed.ensures in
-    finishes_then {A = Unit {0}} (λ next. begins_file out (next tt)) (λ begun. stream_plan c.args.work c.args.keys.now (seen_datum c.args.ad) out) old mid new tt c.close_file.result (c.in_ok-begin_file.ensures.passes behind)
+    finishes_then {A = Unit {0}} (λ next. begins_file out (next tt)) (λ begun. passes_stream c.args.work c.args.keys.now (seen_datum c.args.ad) out) old mid new tt c.close_file.result (c.in_ok-begin_file.ensures.passes behind)
     (filed_ends c.args.work c.args.keys.now (seen_datum c.args.ad) mid source entropy (record {
       begun = c.in_ok-begin_file.ensures.begun;
       named = passed.name;

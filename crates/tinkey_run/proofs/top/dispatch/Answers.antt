@@ -6,11 +6,9 @@ use Rattle.tinkey_plans.specs.Envelopes.{envelope_output}
 use Rattle.tinkey_plans.specs.KeyOf.{key_of_output}
 use Rattle.tinkey_plans.specs.Ranging.{range_output}
 use Rattle.tinkey_plans.specs.SelfTesting.{self_test_output}
-use Rattle.tinkey_plans.specs.Streaming.{begins_file, loads_stream_keys}
+use Rattle.tinkey_plans.specs.Streaming.{begins_file, loads_stream_keys, passes_stream}
 use Rattle.tinkey_plans.specs.Using.{shows, use_output}
 use Rattle.tinkey_words.specs.Words.{seen_datum, seen_envelope, seen_lock, seen_name, seen_place, seen_range, seen_work}
-use Rattle.tinkey_run.specs.StreamFile.{stream_plan}
-use Rattle.tinkey_run.specs.declared.streaming.StreamWork.TheVariants as works
 use Rattle.tinkey_run.proofs.LockLemmas.{finished_there, finishes_then}
 use Rattle.tinkey_run.proofs.top.dispatch.Goals as goal
 
@@ -56,56 +54,22 @@ returns-in-UseEnvelope g c =
     let new = record w { source = g.S.Source.state c.use_envelope-done.new.source; entropy = g.E.Entropy.state c.use_envelope-done.new.entropy; store = g.D.Store.state c.use_envelope-done.new.store } in
     rw x.is (c.finish_output-in-UseEnvelope.ensures (envelope_output _ (seen_lock x.lock) x.keyset.now x.form x.template.now (seen_envelope x.work)) w new (c.use_envelope-done.ensures w))
 
-pub returns-in_err-keys-in-SealStream : goal.returns-in_err-keys-in-SealStream
-returns-in_err-keys-in-SealStream g c =
+pub returns-in_err-keys-in-UseStream : goal.returns-in_err-keys-in-UseStream
+returns-in_err-keys-in-UseStream g c =
     let w = world (g.S.Source.state c.args.source.now) (g.K.Sink.state c.args.sink.now) (g.D.Store.state c.args.store.now) (g.E.Entropy.state c.args.entropy.now) in
-    let x = c.in-SealStream in
+    let x = c.in-UseStream in
     let out = seen_name x.output in
-    rw x.is (finished_there {A = KeysForStreams} (loads_stream_keys _ (seen_lock x.lock) x.keyset.now x.form) (λ keys. begins_file out (stream_plan works.Seal keys (seen_datum x.ad) out)) w (record w { store = g.D.Store.state c.load_stream_keys.new.store }) _ _ c.from_residual.ensures.1 (c.in_err-keys-in-SealStream.ensures.passes w))
+    rw x.is (finished_there {A = KeysForStreams} (loads_stream_keys _ (seen_lock x.lock) x.keyset.now x.form) (λ keys. begins_file out (passes_stream x.work keys (seen_datum x.ad) out)) w (record w { store = g.D.Store.state c.load_stream_keys.new.store }) _ _ c.from_residual.ensures.1 (c.in_err-keys-in-UseStream.ensures.passes w))
 
-pub returns-in_ok-keys-in-SealStream : goal.returns-in_ok-keys-in-SealStream
-returns-in_ok-keys-in-SealStream g c =
+pub returns-in_ok-keys-in-UseStream : goal.returns-in_ok-keys-in-UseStream
+returns-in_ok-keys-in-UseStream g c =
     let w = world (g.S.Source.state c.args.source.now) (g.K.Sink.state c.args.sink.now) (g.D.Store.state c.args.store.now) (g.E.Entropy.state c.args.entropy.now) in
-    let x = c.in-SealStream in
+    let x = c.in-UseStream in
     let out = seen_name x.output in
     let put = c.put_stream in
     let mid = record w { store = g.D.Store.state c.load_stream_keys.new.store } in
     let new = world (g.S.Source.state put.new.source) (g.K.Sink.state put.new.sink) (g.D.Store.state put.new.store) (g.E.Entropy.state put.new.entropy) in
-    rw x.is (finishes_then {A = KeysForStreams} (loads_stream_keys _ (seen_lock x.lock) x.keyset.now x.form) (λ keys. begins_file out (stream_plan works.Seal keys (seen_datum x.ad) out)) w mid new c.in_ok-keys-in-SealStream.keys put.result (c.in_ok-keys-in-SealStream.ensures.passes w) put.ensures)
-
-pub returns-in_err-keys-in-OpenStream : goal.returns-in_err-keys-in-OpenStream
-returns-in_err-keys-in-OpenStream g c =
-    let w = world (g.S.Source.state c.args.source.now) (g.K.Sink.state c.args.sink.now) (g.D.Store.state c.args.store.now) (g.E.Entropy.state c.args.entropy.now) in
-    let x = c.in-OpenStream in
-    let out = seen_name x.output in
-    rw x.is (finished_there {A = KeysForStreams} (loads_stream_keys _ (seen_lock x.lock) x.keyset.now x.form) (λ keys. begins_file out (stream_plan works.Open keys (seen_datum x.ad) out)) w (record w { store = g.D.Store.state c.load_stream_keys-in-OpenStream.new.store }) _ _ c.from_residual-in_err-keys-in-OpenStream.ensures.1 (c.in_err-keys-in-OpenStream.ensures.passes w))
-
-pub returns-in_ok-keys-in-OpenStream : goal.returns-in_ok-keys-in-OpenStream
-returns-in_ok-keys-in-OpenStream g c =
-    let w = world (g.S.Source.state c.args.source.now) (g.K.Sink.state c.args.sink.now) (g.D.Store.state c.args.store.now) (g.E.Entropy.state c.args.entropy.now) in
-    let x = c.in-OpenStream in
-    let out = seen_name x.output in
-    let put = c.put_stream-in-OpenStream in
-    let mid = record w { store = g.D.Store.state c.load_stream_keys-in-OpenStream.new.store } in
-    let new = world (g.S.Source.state put.new.source) (g.K.Sink.state put.new.sink) (g.D.Store.state put.new.store) (g.E.Entropy.state put.new.entropy) in
-    rw x.is (finishes_then {A = KeysForStreams} (loads_stream_keys _ (seen_lock x.lock) x.keyset.now x.form) (λ keys. begins_file out (stream_plan works.Open keys (seen_datum x.ad) out)) w mid new c.in_ok-keys-in-OpenStream.keys put.result (c.in_ok-keys-in-OpenStream.ensures.passes w) put.ensures)
-
-pub returns-in_err-keys-in-ResealStream : goal.returns-in_err-keys-in-ResealStream
-returns-in_err-keys-in-ResealStream g c =
-    let w = world (g.S.Source.state c.args.source.now) (g.K.Sink.state c.args.sink.now) (g.D.Store.state c.args.store.now) (g.E.Entropy.state c.args.entropy.now) in
-    let x = c.in-ResealStream in
-    let out = seen_name x.output in
-    rw x.is (finished_there {A = KeysForStreams} (loads_stream_keys _ (seen_lock x.lock) x.keyset.now x.form) (λ keys. begins_file out (stream_plan works.Reseal keys (seen_datum x.ad) out)) w (record w { store = g.D.Store.state c.load_stream_keys-in-ResealStream.new.store }) _ _ c.from_residual-in_err-keys-in-ResealStream.ensures.1 (c.in_err-keys-in-ResealStream.ensures.passes w))
-
-pub returns-in_ok-keys-in-ResealStream : goal.returns-in_ok-keys-in-ResealStream
-returns-in_ok-keys-in-ResealStream g c =
-    let w = world (g.S.Source.state c.args.source.now) (g.K.Sink.state c.args.sink.now) (g.D.Store.state c.args.store.now) (g.E.Entropy.state c.args.entropy.now) in
-    let x = c.in-ResealStream in
-    let out = seen_name x.output in
-    let put = c.put_stream-in-ResealStream in
-    let mid = record w { store = g.D.Store.state c.load_stream_keys-in-ResealStream.new.store } in
-    let new = world (g.S.Source.state put.new.source) (g.K.Sink.state put.new.sink) (g.D.Store.state put.new.store) (g.E.Entropy.state put.new.entropy) in
-    rw x.is (finishes_then {A = KeysForStreams} (loads_stream_keys _ (seen_lock x.lock) x.keyset.now x.form) (λ keys. begins_file out (stream_plan works.Reseal keys (seen_datum x.ad) out)) w mid new c.in_ok-keys-in-ResealStream.keys put.result (c.in_ok-keys-in-ResealStream.ensures.passes w) put.ensures)
+    rw x.is (finishes_then {A = KeysForStreams} (loads_stream_keys _ (seen_lock x.lock) x.keyset.now x.form) (λ keys. begins_file out (passes_stream x.work keys (seen_datum x.ad) out)) w mid new c.in_ok-keys-in-UseStream.keys put.result (c.in_ok-keys-in-UseStream.ensures.passes w) put.ensures)
 
 pub returns-in-OpenRange : goal.returns-in-OpenRange
 returns-in-OpenRange g c =
