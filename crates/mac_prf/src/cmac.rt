@@ -63,9 +63,25 @@ impl<'k> Cmac<'k> {
     /// Encrypts or decrypts `body` in place by counter mode under `key`, from `start`, all of whose
     /// bits count (SP 800-38A, 6.5), and adds the result to the message.
     ///
-    /// If the keys have the same size, and the message so far is whole blocks and not empty, whole
-    /// blocks are enciphered for both side by side.
+    /// If the keys have the same size, and the message so far is whole blocks, whole blocks are
+    /// enciphered for both side by side.
     pub fn update_encrypted(&mut self, key: &Aes, start: &[u8; 16], body: &mut [u8])
+        ensures text { body.new ≡ ctr key.now start.now All128 body.old }
+        ensures message { (under m : List ℕ) →
+            Holds self.old under m → Holds self.new under (m ++ body.new) }
+    {
+        if self.size == 0 && body.len() > 16 {
+            // The first block of a message is held before any block is chained.
+            let (first, rest) = body.split_at_mut(16);
+            self.add_encrypted(key, start, first);
+            self.add_encrypted(key, &counter_after(start, 1), rest);
+        } else {
+            self.add_encrypted(key, start, body);
+        }
+    }
+
+    // Encrypts and adds to the message: side by side if a whole block is held.
+    fn add_encrypted(&mut self, key: &Aes, start: &[u8; 16], body: &mut [u8])
         ensures text { body.new ≡ ctr key.now start.now All128 body.old }
         ensures message { (under m : List ℕ) →
             Holds self.old under m → Holds self.new under (m ++ body.new) }

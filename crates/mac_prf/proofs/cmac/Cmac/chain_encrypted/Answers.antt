@@ -1,5 +1,5 @@
 -- All but the last of the held block and the new ones are so many more of those in front.
-use Rattle.std.proofs.Common.{◌≡◌, ◌+◌, ◌%◌, ◌++◌, ◌∙◌, List, ℕ, ap, append_assoc, arith, drop, length, length-append, sym, take}
+use Rattle.std.proofs.Common.{◌≡◌, ◌+◌, ◌++◌, ◌∙◌, List, ℕ, ap, append_assoc, arith, length, length-append, sym, take}
 use Rattle.std.proofs.lemmas.List.{length-drop, length-take-le, take-append-drop, take_all}
 use Rattle.aes_core.specs.Chain.{chained, whole_blocks}
 use Rattle.aes_core.specs.declared.counter.CtrKind.TheVariants.{All128}
