@@ -1,2 +1,3 @@
 pub mod SivLemmas
 pub mod BlockLemmas
+pub mod XorEndLemmas

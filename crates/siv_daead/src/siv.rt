@@ -6,7 +6,7 @@ ghost use Rattle.tink_spec.specs.InPlace.{OpensTo};
 ghost use Rattle.aes_core.specs.Counter.{ctr};
 ghost use Rattle.aes_core.specs.declared.counter.CtrKind.TheVariants.{All128};
 ghost use Rattle.mac_prf.specs.Cmac.{cmac};
-ghost use Rattle.siv_daead.specs.Siv.{first_counter, mac_key, s2v, siv_open, siv_seal, siv_text};
+ghost use Rattle.siv_daead.specs.Siv.{datum_block, first_counter, mac_key, s2v, siv_open, siv_seal, siv_text, xor_end};
 
 use aes_core::blocks::{padded, same_bytes, xor};
 use aes_core::{Aes, CtrKind, KeySize};
@@ -118,26 +118,62 @@ fn open_in_place(key: &SivKey, siv: &[u8; 16], ad: &[u8], body: &mut [u8]) -> bo
     ensures opened { OnTrue result (body.new ≡ siv_text key.now siv.now body.old) }
     ensures kept { OnFalse result (body.new ≡ body.old) }
 {
-    crypt(&key.ctr, siv, body);
-    let same = same_bytes(siv, &synthetic_iv(&key.mac, ad, body));
+    let same = same_bytes(siv, &decrypt_and_mac(key, siv, ad, body));
     if !same {
         crypt(&key.ctr, siv, body);
     }
     same
 }
 
+// Decrypts in place, and makes S2V of the datum and the plaintext, side by side if there is a block
+// (2.7).
+fn decrypt_and_mac(key: &SivKey, siv: &[u8; 16], ad: &[u8], body: &mut [u8]) -> [u8; 16]
+    ensures text { body.new ≡ siv_text key.now siv.now body.old }
+    ensures mac { result ≡ s2v (mac_key key.now) ad.now body.new }
+{
+    if body.len() < 16 {
+        crypt(&key.ctr, siv, body);
+        return synthetic_iv(&key.mac, ad, body);
+    }
+    // Counter mode is an XOR too: D goes through it to the end of the plaintext, where S2V has it.
+    let datum = datum_block(&key.mac, ad);
+    xor_end(body, &datum);
+    let mut state = Cmac::under(&key.mac);
+    state.update_encrypted(&key.ctr, &first_counter(siv), body);
+    xor_end(body, &datum);
+    state.finish()
+}
+
 // S2V of the datum and the plaintext, under the first half of the key (2.4 and 2.6).
 fn synthetic_iv(key: &Aes, ad: &[u8], plain: &[u8]) -> [u8; 16]
     ensures { result ≡ s2v key.now ad.now plain.now }
 {
-    let zeros = mac(key, &[], &[0; 16]);
-    let datum = xor(&doubled(&zeros), &mac(key, &[], ad));
+    let datum = datum_block(key, ad);
     if plain.len() < 16 {
         mac(key, &[], &xor(&doubled(&datum), &padded(plain)))
     } else {
         let (front, back) = plain.split_at(plain.len() - 16);
         mac(key, front, &xor(&block_of(back), &datum))
     }
+}
+
+// D after the one datum (2.4).
+fn datum_block(key: &Aes, ad: &[u8]) -> [u8; 16]
+    ensures { result ≡ datum_block key.now ad.now }
+{
+    let zeros = mac(key, &[], &[0; 16]);
+    xor(&doubled(&zeros), &mac(key, &[], ad))
+}
+
+// XORs a block onto the end (xorend of 2.1).
+fn xor_end(bytes: &mut [u8], block: &[u8; 16])
+    requires { 16 ≤ length bytes.old }
+    ensures { bytes.new ≡ xor_end bytes.old block.now }
+{
+    let size = bytes.len();
+    let (_, back) = bytes.split_at_mut(size - 16);
+    let sum = xor(&block_of(back), block);
+    back.copy_from_slice(&sum);
 }
 
 // CMAC of a message in two pieces.
@@ -155,8 +191,14 @@ fn mac(key: &Aes, front: &[u8], back: &[u8]) -> [u8; 16]
 fn crypt(key: &Aes, siv: &[u8; 16], body: &mut [u8])
     ensures { body.new ≡ ctr key.now (first_counter siv.now) All128 body.old }
 {
-    let start = (u128::from_be_bytes(*siv) & KEPT_BITS).to_be_bytes();
-    key.ctr_xor(&start, CtrKind::All128, body);
+    key.ctr_xor(&first_counter(siv), CtrKind::All128, body);
+}
+
+// The counter made from the SIV (2.5 and 2.6).
+fn first_counter(siv: &[u8; 16]) -> [u8; 16]
+    ensures { result ≡ first_counter siv.now }
+{
+    (u128::from_be_bytes(*siv) & KEPT_BITS).to_be_bytes()
 }
 
 // The bytes of a block.
