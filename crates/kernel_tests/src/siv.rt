@@ -1,11 +1,13 @@
 //! AES-SIV against printed and independent sealings, and altered ones refused.
 
 use crate::rows::bytes_in;
-use crate::sealing::{Alterations, SealingKey, assert_accepted, assert_altered_refused};
+use crate::sealing::{Alterations, SealingKey, assert_accepted, assert_altered_refused, sealed};
+use aes_core::Aes;
+use mac_prf::Cmac;
 use siv_daead::SivKey;
 use std::alloc::Global;
 use std::test::Fail;
-use test_words::cell;
+use test_words::{cell, counting};
 
 // A row has what it shows, the key, the associated datum, the plaintext, and SIV and ciphertext.
 
@@ -69,6 +71,53 @@ fn seals_and_opens_what_another_tink_does(rt: HostRuntime) -> Result<(), Fail> {
 #[test]
 fn seals_and_opens_what_openssl_does(rt: HostRuntime) -> Result<(), Fail> {
     assert_rows(rt.alloc(), OF_OPENSSL)
+}
+
+// The texts of 0 to 130 bytes, so that each place round the ends of blocks is met: where the last 16
+// bytes begin, and where counter mode takes four blocks at a time.
+const LONGEST: usize = 130;
+
+// Seals so many of the bytes that count up, opens it, and alters it on both sides of its last 16
+// bytes and elsewhere.
+fn sealed_and_altered(alloc: Global, siv_key: &SivKey, size: usize) -> Result<Vec<u8>, Fail> {
+    let key = &SealingKey::Siv(siv_key);
+    let plain = counting(alloc, size)?;
+    let ad = counting(alloc, size % 20)?;
+    let found = sealed(alloc, key, &[], &[0; 16], &plain, &ad)?;
+    let last = found.len().saturating_sub(1);
+    let back = last.saturating_sub(15);
+    let altered = Alterations {
+        bit: 0x01,
+        places: &[0, 15, last / 2, back.saturating_sub(1), back, last],
+        lengths: &[last, last / 2],
+    };
+    assert_accepted(alloc, "each length", key, &[0; 16], &plain, &ad, &found)?;
+    assert_altered_refused(alloc, "each length", key, &altered, &found, &ad)?;
+    Ok(found)
+}
+
+// Under the key of so many bytes that count up: CMAC of the sealings of all lengths, joined, under
+// the first 16 of these bytes.
+fn tag_of_lengths(alloc: Global, size: usize) -> Result<[u8; 16], Fail> {
+    let bytes = counting(alloc, size)?;
+    let siv_key = SivKey::new(&bytes)?;
+    let aes = Aes::new(&counting(alloc, 16)?)?;
+    let mut tag = Cmac::under(&aes);
+    for length in 0..=LONGEST {
+        tag.update(&sealed_and_altered(alloc, &siv_key, length)?);
+    }
+    Ok(tag.finish())
+}
+
+// The tags are those of what OpenSSL seals, by Python's cryptography.
+#[test]
+fn seals_and_opens_texts_of_each_length(rt: HostRuntime) -> Result<(), Fail> {
+    let alloc = rt.alloc();
+    let of_32 = 0x4CC3EDFCF0D2B019E496AC310681BCF6_u128.to_be_bytes();
+    let of_64 = 0x9571D31BA14365199014ED42BA99EDBE_u128.to_be_bytes();
+    assert!(rt; tag_of_lengths(alloc, 32)? == of_32);
+    assert!(rt; tag_of_lengths(alloc, 64)? == of_64);
+    Ok(())
 }
 
 // Lengths on both sides of the two that are taken, and that of two keys of AES-192.
