@@ -2,6 +2,7 @@
 
 ghost use Rattle.std.specs.Prelude.{◌≡◌, ◌+◌, ◌^◌, ◌≤◌, ◌++◌, drop, length, string_bytes, take, IfOk};
 ghost use Rattle.aead_kinds.specs.GcmSiv.{gcm_siv_seal};
+ghost use Rattle.key_msgs.specs.KeyTypes.{url_of_type};
 ghost use Rattle.key_msgs.specs.Keys.{IsValid};
 ghost use Rattle.managers.specs.Schemes.{aead_scheme, type_under};
 ghost use Rattle.managers.specs.Uses.{iv_size, open_key, seal_of};
@@ -159,7 +160,49 @@ impl AeadScheme {
     }
 }
 
-/// The manager of the keys of one of these schemes.
+impl KeyManager for AeadScheme {
+    ghost url = { λ scheme. url_of_type (type_under (aead_scheme scheme)) };
+
+    ghost scheme = { λ scheme. aead_scheme scheme };
+
+    fn type_url(&self) -> &str {
+        self.key_type().url()
+    }
+
+    fn check(&self, alloc: Global, value: &[u8]) -> Result<Prepared, CheckFault> {
+        read_as(alloc, self.key_type(), value)
+    }
+}
+
+impl AeadManager for AeadScheme {
+    fn iv_size(&self, key: &Prepared) -> usize {
+        iv_size_under(key.kind())
+    }
+
+    fn seal(
+        &self,
+        key: &Prepared,
+        at: usize,
+        bytes: Vec<u8>,
+        iv: &[u8],
+        ad: &[u8],
+    ) -> Result<Vec<u8>, NoMemory> {
+        seal_under(key, at, bytes, iv, ad)
+    }
+
+    fn open(
+        &self,
+        key: &Prepared,
+        bytes: &mut [u8],
+        ad: &[u8],
+        trials: &mut Trials,
+    ) -> Option<Range<usize>> {
+        trials.tick();
+        open_under(key, bytes, ad)
+    }
+}
+
+/// The manager of the keys of one of these schemes, under any type URL.
 #[derive(Drop)]
 pub struct StandardAead {
     url: String,
@@ -186,13 +229,13 @@ impl KeyManager for StandardAead {
     }
 
     fn check(&self, alloc: Global, value: &[u8]) -> Result<Prepared, CheckFault> {
-        read_as(alloc, self.scheme.key_type(), value)
+        self.scheme.check(alloc, value)
     }
 }
 
 impl AeadManager for StandardAead {
     fn iv_size(&self, key: &Prepared) -> usize {
-        iv_size_under(key.kind())
+        self.scheme.iv_size(key)
     }
 
     fn seal(
@@ -203,7 +246,7 @@ impl AeadManager for StandardAead {
         iv: &[u8],
         ad: &[u8],
     ) -> Result<Vec<u8>, NoMemory> {
-        seal_under(key, at, bytes, iv, ad)
+        self.scheme.seal(key, at, bytes, iv, ad)
     }
 
     fn open(
@@ -213,7 +256,6 @@ impl AeadManager for StandardAead {
         ad: &[u8],
         trials: &mut Trials,
     ) -> Option<Range<usize>> {
-        trials.tick();
-        open_under(key, bytes, ad)
+        self.scheme.open(key, bytes, ad, trials)
     }
 }

@@ -1,8 +1,10 @@
 //! The manager of AES-SIV.
 
 ghost use Rattle.std.specs.Prelude.{◌≡◌, ◌+◌, ◌^◌, ◌≤◌, ◌++◌, drop, length, string_bytes, take};
+ghost use Rattle.key_msgs.specs.KeyTypes.{url_of_type};
 ghost use Rattle.key_msgs.specs.Keys.{IsValid};
 ghost use Rattle.managers.specs.Schemes as schemes;
+ghost use Rattle.managers.specs.Schemes.{type_under};
 ghost use Rattle.managers.specs.Uses.{dopen_key, dseal_of};
 ghost use Rattle.tink_spec.specs.InPlace.{OpensTo};
 
@@ -46,7 +48,51 @@ fn dopen_under(key: &Prepared, bytes: &mut [u8], ad: &[u8]) -> Option<Range<usiz
     }
 }
 
-/// The manager of AES-SIV keys (RFC 5297).
+/// The scheme of deterministic authenticated encryption.
+#[derive(Clone, Copy, Debug, PartialEq, Eq)]
+pub enum DaeadScheme {
+    /// AES-SIV (RFC 5297).
+    Siv,
+}
+
+impl KeyManager for DaeadScheme {
+    ghost url = { λ _. url_of_type (type_under schemes.Siv) };
+
+    ghost scheme = { λ _. schemes.Siv };
+
+    fn type_url(&self) -> &str {
+        KeyType::AesSiv.url()
+    }
+
+    fn check(&self, alloc: Global, value: &[u8]) -> Result<Prepared, CheckFault> {
+        read_as(alloc, KeyType::AesSiv, value)
+    }
+}
+
+impl DaeadManager for DaeadScheme {
+    fn seal(
+        &self,
+        key: &Prepared,
+        at: usize,
+        bytes: Vec<u8>,
+        ad: &[u8],
+    ) -> Result<Vec<u8>, NoMemory> {
+        Ok(dseal_under(key, at, bytes, ad))
+    }
+
+    fn open(
+        &self,
+        key: &Prepared,
+        bytes: &mut [u8],
+        ad: &[u8],
+        trials: &mut Trials,
+    ) -> Option<Range<usize>> {
+        trials.tick();
+        dopen_under(key, bytes, ad)
+    }
+}
+
+/// The manager of AES-SIV keys (RFC 5297), under any type URL.
 #[derive(Drop)]
 pub struct StandardDaead {
     url: String,
@@ -72,7 +118,7 @@ impl KeyManager for StandardDaead {
     }
 
     fn check(&self, alloc: Global, value: &[u8]) -> Result<Prepared, CheckFault> {
-        read_as(alloc, KeyType::AesSiv, value)
+        DaeadScheme::Siv.check(alloc, value)
     }
 }
 
@@ -84,7 +130,7 @@ impl DaeadManager for StandardDaead {
         bytes: Vec<u8>,
         ad: &[u8],
     ) -> Result<Vec<u8>, NoMemory> {
-        Ok(dseal_under(key, at, bytes, ad))
+        DaeadScheme::Siv.seal(key, at, bytes, ad)
     }
 
     fn open(
@@ -94,7 +140,6 @@ impl DaeadManager for StandardDaead {
         ad: &[u8],
         trials: &mut Trials,
     ) -> Option<Range<usize>> {
-        trials.tick();
-        dopen_under(key, bytes, ad)
+        DaeadScheme::Siv.open(key, bytes, ad, trials)
     }
 }

@@ -2,6 +2,7 @@
 
 ghost use Rattle.std.specs.Prelude.{◌≡◌, ◌≤◌, length, string_bytes, IfOk, IsTrue, ◌↔◌};
 ghost use Rattle.std.specs.Str.{bytes_eq};
+ghost use Rattle.key_msgs.specs.KeyTypes.{url_of_type};
 ghost use Rattle.key_msgs.specs.Keys.{IsValid};
 ghost use Rattle.managers.specs.Schemes.{mac_scheme, type_under};
 ghost use Rattle.managers.specs.Uses.{tag_of, tag_size_of, tagged};
@@ -92,7 +93,45 @@ impl MacScheme {
     }
 }
 
-/// The manager of the keys of one of these schemes.
+impl KeyManager for MacScheme {
+    ghost url = { λ scheme. url_of_type (type_under (mac_scheme scheme)) };
+
+    ghost scheme = { λ scheme. mac_scheme scheme };
+
+    fn type_url(&self) -> &str {
+        self.key_type().url()
+    }
+
+    fn check(&self, alloc: Global, value: &[u8]) -> Result<Prepared, CheckFault> {
+        read_as(alloc, self.key_type(), value)
+    }
+}
+
+impl MacManager for MacScheme {
+    fn tag(
+        &self,
+        alloc: Global,
+        key: &Prepared,
+        body: &[u8],
+        zero: bool,
+    ) -> Result<Vec<u8>, NoMemory> {
+        tag_under(alloc, key, body, zero)
+    }
+
+    fn verify(
+        &self,
+        key: &Prepared,
+        tag: &[u8],
+        body: &[u8],
+        zero: bool,
+        trials: &mut Trials,
+    ) -> bool {
+        trials.tick();
+        verify_under(key, tag, body, zero)
+    }
+}
+
+/// The manager of the keys of one of these schemes, under any type URL.
 #[derive(Drop)]
 pub struct StandardMac {
     url: String,
@@ -119,7 +158,7 @@ impl KeyManager for StandardMac {
     }
 
     fn check(&self, alloc: Global, value: &[u8]) -> Result<Prepared, CheckFault> {
-        read_as(alloc, self.scheme.key_type(), value)
+        self.scheme.check(alloc, value)
     }
 }
 
@@ -131,7 +170,7 @@ impl MacManager for StandardMac {
         body: &[u8],
         zero: bool,
     ) -> Result<Vec<u8>, NoMemory> {
-        tag_under(alloc, key, body, zero)
+        self.scheme.tag(alloc, key, body, zero)
     }
 
     fn verify(
@@ -142,7 +181,6 @@ impl MacManager for StandardMac {
         zero: bool,
         trials: &mut Trials,
     ) -> bool {
-        trials.tick();
-        verify_under(key, tag, body, zero)
+        self.scheme.verify(key, tag, body, zero, trials)
     }
 }

@@ -1,6 +1,7 @@
 //! The manager of pseudo-random functions: HKDF, HMAC and CMAC.
 
 ghost use Rattle.std.specs.Prelude.{◌≡◌, ◌≤◌, length, string_bytes, IfOk};
+ghost use Rattle.key_msgs.specs.KeyTypes.{url_of_type};
 ghost use Rattle.key_msgs.specs.Keys.{IsValid};
 ghost use Rattle.mac_prf.specs.Hkdf.{hkdf as derived};
 ghost use Rattle.tink_base.specs.Hash.{hash_size};
@@ -86,7 +87,37 @@ impl PrfScheme {
     }
 }
 
-/// The manager of the keys of one of these schemes.
+impl KeyManager for PrfScheme {
+    ghost url = { λ scheme. url_of_type (type_under (prf_scheme scheme)) };
+
+    ghost scheme = { λ scheme. prf_scheme scheme };
+
+    fn type_url(&self) -> &str {
+        self.key_type().url()
+    }
+
+    fn check(&self, alloc: Global, value: &[u8]) -> Result<Prepared, CheckFault> {
+        read_as(alloc, self.key_type(), value)
+    }
+}
+
+impl PrfManager for PrfScheme {
+    fn greatest(&self, key: &Prepared) -> usize {
+        greatest_under(key.kind())
+    }
+
+    fn derive(
+        &self,
+        alloc: Global,
+        key: &Prepared,
+        input: &[u8],
+        size: usize,
+    ) -> Result<Vec<u8>, NoMemory> {
+        derive_under(alloc, key, input, size)
+    }
+}
+
+/// The manager of the keys of one of these schemes, under any type URL.
 #[derive(Drop)]
 pub struct StandardPrf {
     url: String,
@@ -113,13 +144,13 @@ impl KeyManager for StandardPrf {
     }
 
     fn check(&self, alloc: Global, value: &[u8]) -> Result<Prepared, CheckFault> {
-        read_as(alloc, self.scheme.key_type(), value)
+        self.scheme.check(alloc, value)
     }
 }
 
 impl PrfManager for StandardPrf {
     fn greatest(&self, key: &Prepared) -> usize {
-        greatest_under(key.kind())
+        self.scheme.greatest(key)
     }
 
     fn derive(
@@ -129,6 +160,6 @@ impl PrfManager for StandardPrf {
         input: &[u8],
         size: usize,
     ) -> Result<Vec<u8>, NoMemory> {
-        derive_under(alloc, key, input, size)
+        self.scheme.derive(alloc, key, input, size)
     }
 }

@@ -1,10 +1,14 @@
-//! The managers that a program supplies.
+//! The managers of a program: those that it supplies, or the standard ones.
 
 ghost use Rattle.std.specs.Prelude.{◌≡◌, ◌<◌, List, length, slice_get, Some, IfOk, is_err};
+ghost use Rattle.managers.specs.Found.{or_standard};
+ghost use Rattle.managers.specs.Standard.{standard_table};
 ghost use Rattle.managers.specs.Table.{Entry, Table, entries_by, entries_of, has_same_url, place_of};
 
+use crate::found::{Found, FoundAead, FoundDaead, FoundMac, FoundPrf};
 use crate::lists::{find_url, repeats_in_four};
-use crate::{AeadManager, DaeadManager, KeyManager, MacManager, PrfManager};
+use crate::standard::{aead_of, find_standard, mac_of, prf_of};
+use crate::{AeadManager, DaeadManager, DaeadScheme, KeyManager, MacManager, PrfManager};
 use key_msgs::Primitive;
 
 /// Two managers have the same type URL.
@@ -46,72 +50,48 @@ pub trait KeyTable {
 }
 
 impl KeyTable for Managers {
-    ghost table = { λ m. record {
+    ghost table = { λ m. or_standard (λ own. record {
       aead = entries_by
           (λ b. (AeadManager-box b).KeyManager.url b.value)
-          (λ b. (AeadManager-box b).KeyManager.scheme b.value) m.aead.items;
+          (λ b. (AeadManager-box b).KeyManager.scheme b.value) own.aead.items;
       daead = entries_by
           (λ b. (DaeadManager-box b).KeyManager.url b.value)
-          (λ b. (DaeadManager-box b).KeyManager.scheme b.value) m.daead.items;
+          (λ b. (DaeadManager-box b).KeyManager.scheme b.value) own.daead.items;
       mac = entries_by
           (λ b. (MacManager-box b).KeyManager.url b.value)
-          (λ b. (MacManager-box b).KeyManager.scheme b.value) m.mac.items;
+          (λ b. (MacManager-box b).KeyManager.scheme b.value) own.mac.items;
       prf = entries_by
           (λ b. (PrfManager-box b).KeyManager.url b.value)
-          (λ b. (PrfManager-box b).KeyManager.scheme b.value) m.prf.items;
-    } };
+          (λ b. (PrfManager-box b).KeyManager.scheme b.value) own.prf.items;
+    }) m.supplied };
 }
 
-/// The managers supplied, each in the list of its primitive.
+/// The managers that a program supplies, each in the list of its primitive.
 #[derive(Drop)]
-pub struct Managers {
+struct Supplied {
     aead: Vec<Box<dyn AeadManager>>,
     daead: Vec<Box<dyn DaeadManager>>,
     mac: Vec<Box<dyn MacManager>>,
     prf: Vec<Box<dyn PrfManager>>,
 }
 
-// The manager in a box.
-fn lend_aead(b: &Box<dyn AeadManager>) -> &dyn AeadManager
-    ensures url { (⟦<dyn AeadManager as KeyManager>⟧ result.now.0).url result.now.1
-        ≡ (AeadManager-box b.now).KeyManager.url b.now.value }
-    ensures scheme { (⟦<dyn AeadManager as KeyManager>⟧ result.now.0).scheme result.now.1
-        ≡ (AeadManager-box b.now).KeyManager.scheme b.now.value }
-{
-    &**b
+/// The managers of a program, by primitive: those that it supplies, or the standard ones.
+#[derive(Drop)]
+pub struct Managers {
+    // None: the standard ones.
+    supplied: Option<Supplied>,
 }
 
-// The manager in a box.
-fn lend_daead(b: &Box<dyn DaeadManager>) -> &dyn DaeadManager
-    ensures url { (⟦<dyn DaeadManager as KeyManager>⟧ result.now.0).url result.now.1
-        ≡ (DaeadManager-box b.now).KeyManager.url b.now.value }
-    ensures scheme { (⟦<dyn DaeadManager as KeyManager>⟧ result.now.0).scheme result.now.1
-        ≡ (DaeadManager-box b.now).KeyManager.scheme b.now.value }
-{
-    &**b
-}
-
-// The manager in a box.
-fn lend_mac(b: &Box<dyn MacManager>) -> &dyn MacManager
-    ensures url { (⟦<dyn MacManager as KeyManager>⟧ result.now.0).url result.now.1
-        ≡ (MacManager-box b.now).KeyManager.url b.now.value }
-    ensures scheme { (⟦<dyn MacManager as KeyManager>⟧ result.now.0).scheme result.now.1
-        ≡ (MacManager-box b.now).KeyManager.scheme b.now.value }
-{
-    &**b
-}
-
-// The manager in a box.
-fn lend_prf(b: &Box<dyn PrfManager>) -> &dyn PrfManager
-    ensures url { (⟦<dyn PrfManager as KeyManager>⟧ result.now.0).url result.now.1
-        ≡ (PrfManager-box b.now).KeyManager.url b.now.value }
-    ensures scheme { (⟦<dyn PrfManager as KeyManager>⟧ result.now.0).scheme result.now.1
-        ≡ (PrfManager-box b.now).KeyManager.scheme b.now.value }
-{
-    &**b
-}
-
+#[tactic(auto, unfolding(crate::specs::Found::or_standard, crate::specs::Found::of_found))]
 impl Managers {
+    /// The standard managers, one for each scheme, under the type URL of its keys. No memory is
+    /// taken.
+    pub fn standard() -> Managers
+        ensures { ⟦<Managers as KeyTable>⟧.table result ≡ standard_table }
+    {
+        Managers { supplied: None }
+    }
+
     /// Takes the managers of each primitive.
     ///
     /// `SameUrl` comes if and only if two of all the managers have the same URL; then all are
@@ -139,10 +119,12 @@ impl Managers {
             return Err(SameUrl);
         }
         Ok(Managers {
-            aead,
-            daead,
-            mac,
-            prf,
+            supplied: Some(Supplied {
+                aead,
+                daead,
+                mac,
+                prf,
+            }),
         })
     }
 
@@ -153,56 +135,71 @@ impl Managers {
     pub fn find(&self, primitive: Primitive, url: &str) -> Option<usize>
         ensures { result ≡ place_of (⟦<Managers as KeyTable>⟧.table self.now) primitive url.now }
     {
-        match primitive {
-            Primitive::Aead => find_url(&self.aead, url),
-            Primitive::Daead => find_url(&self.daead, url),
-            Primitive::Mac => find_url(&self.mac, url),
-            Primitive::Prf => find_url(&self.prf, url),
-            Primitive::Stream => None,
+        match &self.supplied {
+            None => find_standard(primitive, url),
+            Some(own) => match primitive {
+                Primitive::Aead => find_url(&own.aead, url),
+                Primitive::Daead => find_url(&own.daead, url),
+                Primitive::Mac => find_url(&own.mac, url),
+                Primitive::Prf => find_url(&own.prf, url),
+                Primitive::Stream => None,
+            },
         }
     }
 
     /// The manager at index `at` of the AEAD managers.
-    pub fn aead_at(&self, at: usize) -> &dyn AeadManager
+    pub fn aead_at<'m>(&'m self, at: usize) -> FoundAead<'m>
         requires { at < length (⟦<Managers as KeyTable>⟧.table self.now).aead }
         ensures { slice_get (⟦<Managers as KeyTable>⟧.table self.now).aead at ≡ Some (record {
-          url = (⟦<dyn AeadManager as KeyManager>⟧ result.now.0).url result.now.1;
-          scheme = (⟦<dyn AeadManager as KeyManager>⟧ result.now.0).scheme result.now.1;
+          url = ⟦<FoundAead<'m> as KeyManager>⟧.url result;
+          scheme = ⟦<FoundAead<'m> as KeyManager>⟧.scheme result;
         }) }
     {
-        lend_aead(&self.aead[at])
+        match &self.supplied {
+            None => Found::Standard(aead_of(at)),
+            Some(own) => Found::Supplied(&own.aead[at]),
+        }
     }
 
     /// The manager at index `at` of the deterministic AEAD managers.
-    pub fn daead_at(&self, at: usize) -> &dyn DaeadManager
+    pub fn daead_at<'m>(&'m self, at: usize) -> FoundDaead<'m>
         requires { at < length (⟦<Managers as KeyTable>⟧.table self.now).daead }
         ensures { slice_get (⟦<Managers as KeyTable>⟧.table self.now).daead at ≡ Some (record {
-          url = (⟦<dyn DaeadManager as KeyManager>⟧ result.now.0).url result.now.1;
-          scheme = (⟦<dyn DaeadManager as KeyManager>⟧ result.now.0).scheme result.now.1;
+          url = ⟦<FoundDaead<'m> as KeyManager>⟧.url result;
+          scheme = ⟦<FoundDaead<'m> as KeyManager>⟧.scheme result;
         }) }
     {
-        lend_daead(&self.daead[at])
+        match &self.supplied {
+            None => Found::Standard(DaeadScheme::Siv),
+            Some(own) => Found::Supplied(&own.daead[at]),
+        }
     }
 
     /// The manager at index `at` of the MAC managers.
-    pub fn mac_at(&self, at: usize) -> &dyn MacManager
+    pub fn mac_at<'m>(&'m self, at: usize) -> FoundMac<'m>
         requires { at < length (⟦<Managers as KeyTable>⟧.table self.now).mac }
         ensures { slice_get (⟦<Managers as KeyTable>⟧.table self.now).mac at ≡ Some (record {
-          url = (⟦<dyn MacManager as KeyManager>⟧ result.now.0).url result.now.1;
-          scheme = (⟦<dyn MacManager as KeyManager>⟧ result.now.0).scheme result.now.1;
+          url = ⟦<FoundMac<'m> as KeyManager>⟧.url result;
+          scheme = ⟦<FoundMac<'m> as KeyManager>⟧.scheme result;
         }) }
     {
-        lend_mac(&self.mac[at])
+        match &self.supplied {
+            None => Found::Standard(mac_of(at)),
+            Some(own) => Found::Supplied(&own.mac[at]),
+        }
     }
 
     /// The manager at index `at` of the PRF managers.
-    pub fn prf_at(&self, at: usize) -> &dyn PrfManager
+    pub fn prf_at<'m>(&'m self, at: usize) -> FoundPrf<'m>
         requires { at < length (⟦<Managers as KeyTable>⟧.table self.now).prf }
         ensures { slice_get (⟦<Managers as KeyTable>⟧.table self.now).prf at ≡ Some (record {
-          url = (⟦<dyn PrfManager as KeyManager>⟧ result.now.0).url result.now.1;
-          scheme = (⟦<dyn PrfManager as KeyManager>⟧ result.now.0).scheme result.now.1;
+          url = ⟦<FoundPrf<'m> as KeyManager>⟧.url result;
+          scheme = ⟦<FoundPrf<'m> as KeyManager>⟧.scheme result;
         }) }
     {
-        lend_prf(&self.prf[at])
+        match &self.supplied {
+            None => Found::Standard(prf_of(at)),
+            Some(own) => Found::Supplied(&own.prf[at]),
+        }
     }
 }

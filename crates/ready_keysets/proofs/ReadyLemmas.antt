@@ -5,7 +5,7 @@ use Rattle.key_msgs.specs.declared.primitive.Primitive.{Primitive}
 use Rattle.keyset_model.specs.Keyset.{Keys}
 use Rattle.wrapped_prims.specs.Making.{IsOver}
 use Rattle.wrapped_prims.specs.declared.held.Held.{Held}
-use Rattle.ready_keysets.specs.Tables.{table_of}
+use Rattle.managers.specs.Standard.{standard_table}
 use Rattle.ready_keysets.specs.Working.{IsAnswered, IsOutcome, answer, lack_of, primitive_of}
 use Rattle.ready_keysets.specs.declared.refusal.Refusal.{Refusal}
 use Rattle.ready_keysets.specs.declared.refusal.Refusal.TheVariants as refusals
@@ -13,8 +13,8 @@ use Rattle.ready_keysets.specs.declared.work.Work.{Work}
 
 -- keys that are held for a primitive are held for the same one
 pub over_at : (p q : Primitive) (keys : Keys) (held : Held) → p ≡ q
-    → IsOver (table_of p) p keys held → IsOver (table_of q) q keys held
-over_at p q keys held same over = subst (λ (r : Primitive). IsOver (table_of r) r keys held) same over
+    → IsOver standard_table p keys held → IsOver standard_table q keys held
+over_at p q keys held same over = subst (λ (r : Primitive). IsOver standard_table r keys held) same over
 
 -- what is answered to work of the keys' own primitive is the outcome
 pub outcome_of : (primitive : Primitive) (keys : Keys) (work : Work) (old new : List ℕ) (result : Result ℕ Refusal)

@@ -1,7 +1,6 @@
 pub mod Keeping
 pub mod Objects
 pub mod Streaming
-pub mod Tables
 pub mod Texts
 pub mod Unwrapping
 pub mod Working

@@ -22,7 +22,6 @@ use Rattle.seal_wrap.specs.declared.encrypted.unwrapping.UnwrapFault.{UnwrapFaul
 use Rattle.seal_wrap.specs.declared.encrypted.unwrapping.UnwrapFault.TheVariants as faults
 use Rattle.wrapped_prims.specs.Fitness.{Unfit, unfit}
 use Rattle.ready_keysets.specs.Streaming.{ReadNoStreams}
-use Rattle.ready_keysets.specs.Tables.{table_of}
 use Rattle.ready_keysets.specs.Texts.{ReadUnfit}
 use Rattle.ready_keysets.specs.declared.refusal.Refusal.{Refusal}
 use Rattle.ready_keysets.specs.declared.refusal.Refusal.TheVariants as refusals
@@ -60,7 +59,7 @@ of_fit None (Ok keys) = Ok keys
 -- what an encrypted text gives under a master, by the standard table
 abbrev pub inside_under : (encrypted : List ℕ) → (json : Bool) → (master : Keys) → Result Keys Lack
 inside_under encrypted json master =
-    of_fit (unfit master Aead (table_of Aead)) (unwrap_of master standard_table encrypted json)
+    of_fit (unfit master Aead standard_table) (unwrap_of master standard_table encrypted json)
 
 -- the same, where there is a master
 abbrev pub inside_by : (encrypted : List ℕ) → (json : Bool) → Option Keys → Result Keys Lack

@@ -16,7 +16,6 @@ use Rattle.managers.specs.Standard.{standard_table}
 use Rattle.wrapped_prims.specs.Answers.{Sealed, derive_answer, dopen_answer, dseal_answer, open_answer, seal_answer, tag_answer, verify_answer}
 use Rattle.wrapped_prims.specs.Fitness.{unfit}
 use Rattle.wrapped_prims.specs.Making.{IsOver}
-use Rattle.ready_keysets.specs.Tables.{table_of}
 use Rattle.ready_keysets.specs.declared.ready.ReadyKeyset.{ReadyKeyset}
 use Rattle.ready_keysets.specs.declared.refusal.Refusal.{Refusal}
 use Rattle.ready_keysets.specs.declared.refusal.Refusal.TheVariants as refusals
@@ -88,7 +87,7 @@ answer keys (works.Derive input size) = derived (derive_answer keys standard_tab
 
 -- the keys of the keyset are held, each of which its manager has checked
 abbrev pub IsReady : ReadyKeyset → Type 0
-IsReady r = IsOver (table_of r.keys.primitive) r.keys.primitive r.keyset r.keys.held
+IsReady r = IsOver standard_table r.keys.primitive r.keyset r.keys.held
 
 -- there are bytes, and more of them than the room
 abbrev pub NeedsMore : Option (List ℕ) → ℕ → Type 0
@@ -130,6 +129,6 @@ IsOutcome primitive keys work old new (Err refusal) =
 
 -- an ENABLED key can't serve for the primitive. Of want of memory nothing is said.
 abbrev pub IsUnfit : Primitive → Keys → Refusal → Type 0
-IsUnfit primitive keys refusals.UnfitKey = IsSome (unfit keys primitive (table_of primitive))
+IsUnfit primitive keys refusals.UnfitKey = IsSome (unfit keys primitive standard_table)
 IsUnfit primitive keys refusals.NoMemory = Unit {0}
 IsUnfit primitive keys _ = ⊥

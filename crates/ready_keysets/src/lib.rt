@@ -1,18 +1,14 @@
 //! Keysets that are ready for work: the keys of a keyset for one primitive, kept beside it without
 //! managers, and sealing, opening, tagging, verifying and deriving with them into a caller's slice.
 //!
-//! For each call the standard managers of its primitive are made again. A keyset can be read from
-//! its text, or opened from an encrypted one. Streams are sealed and opened in pieces of any size.
+//! Keys are served by the standard managers, which take no memory. A keyset can be read from its
+//! text, or opened from an encrypted one. Streams are sealed and opened in pieces of any size.
 #![tactic(auto)]
 
-mod aead;
-mod daead;
 mod kept;
-mod mac;
 mod objects;
 mod opening;
 mod perform;
-mod prf;
 mod ready;
 mod refusal;
 mod sealing;

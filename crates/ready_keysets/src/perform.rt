@@ -1,4 +1,4 @@
-//! Work under managers, whatever the primitive.
+//! Work under the standard managers, whatever the primitive.
 
 ghost use Rattle.std.specs.Prelude.{◌≡◌, ◌≢◌, ◌≤◌, ◌^◌, length, Some, IfOk, IfErr, OnErr};
 ghost use Rattle.std.specs.Option.{option_map};
@@ -7,7 +7,6 @@ ghost use Rattle.keyset_model.specs.Keyset.{Keys};
 ghost use Rattle.managers.specs.Standard.{standard_table};
 ghost use Rattle.wrapped_prims.specs.Answers.{Sealed, derive_answer, dopen_answer, dseal_answer, open_answer, seal_answer, tag_answer, verify_answer};
 ghost use Rattle.wrapped_prims.specs.Making.{IsOver};
-ghost use Rattle.ready_keysets.specs.Tables.{table_of};
 ghost use Rattle.ready_keysets.specs.Working.{IsAnswered, IsUnfit, IsWithin, answer, derived, lack_of, primitive_of, verified};
 ghost use Rattle.ready_keysets.specs.declared.refusal.Refusal.{Refusal as RefusalValue};
 ghost use Rattle.ready_keysets.specs.declared.refusal.Refusal.TheVariants as refusals;
@@ -21,46 +20,43 @@ use std::mem::replace;
 use tink_base::{Drawn, Trials};
 use wrapped_prims::{DeriveFault, Handle, HandleError, HeldKeys, SealFault};
 
-/// The keys of a keyset, checked and prepared under the standard managers of the primitive.
-pub(crate) fn hold_under(
+/// The keys of a keyset, checked and prepared for a primitive.
+pub(crate) fn hold(
     alloc: Global,
     keyset: &Keyset,
-    managers: &Managers,
     primitive: Primitive,
 ) -> Result<HeldKeys, Refusal>
     requires no_stream { primitive ≢ Stream }
-    requires table { ⟦<Managers as KeyTable>⟧.table managers.now ≡ table_of primitive }
     ensures primitive { IfOk result (λ keys. keys.primitive ≡ primitive) }
-    ensures over { IfOk result (λ keys. IsOver (table_of primitive) primitive keyset.now keys.held) }
+    ensures over { IfOk result (λ keys. IsOver standard_table primitive keyset.now keys.held) }
     ensures unfit { IfErr result (IsUnfit primitive keyset.now) }
 {
-    match Handle::new(alloc, keyset, managers, primitive) {
+    let managers = Managers::standard();
+    match Handle::new(alloc, keyset, &managers, primitive) {
         Ok(handle) => Ok(handle.into_keys()),
         Err(HandleError::NoMemory) => Err(Refusal::NoMemory),
         Err(_) => Err(Refusal::UnfitKey),
     }
 }
 
-/// Does work with the held keys, under the standard managers of its primitive.
-pub(crate) fn perform_under(
+/// Does work with the held keys, of their primitive. The managers take no memory.
+pub(crate) fn perform(
     alloc: Global,
     keys: &mut HeldKeys,
-    managers: &Managers,
     work: Work<'_>,
     out: &mut [u8],
 ) -> Result<usize, Refusal>
-    requires table { ⟦<Managers as KeyTable>⟧.table managers.now ≡ table_of (primitive_of work) }
-    requires over { (of : Keys)
-        × IsOver (table_of (primitive_of work)) (primitive_of work) of keys.old.held }
+    requires over { (of : Keys) × IsOver standard_table (primitive_of work) of keys.old.held }
     requires within { IsWithin work }
     ensures held { keys.new.held ≡ keys.old.held }
     ensures primitive { keys.new.primitive ≡ keys.old.primitive }
     ensures answered { (of : Keys)
-        → IsOver (table_of (primitive_of work.entry)) (primitive_of work.entry) of keys.old.held
+        → IsOver standard_table (primitive_of work.entry) of keys.old.held
         → IsAnswered (lack_of work.entry) (answer of work.entry) out.old out.new result }
     ensures kept { OnErr result (out.new ≡ out.old) }
 {
-    let handle = Handle::of_keys(replace(keys, HeldKeys::none(alloc)), managers);
+    let managers = Managers::standard();
+    let handle = Handle::of_keys(replace(keys, HeldKeys::none(alloc)), &managers);
     let done = perform_by(alloc, &handle, work, out);
     *keys = handle.into_keys();
     done
@@ -74,12 +70,12 @@ fn perform_by(
     out: &mut [u8],
 ) -> Result<usize, Refusal>
     requires table { ⟦<Managers as KeyTable>⟧.table handle.now.managers.now
-        ≡ table_of (primitive_of work) }
+        ≡ standard_table }
     requires over { (of : Keys)
-        × IsOver (table_of (primitive_of work)) (primitive_of work) of handle.now.held }
+        × IsOver standard_table (primitive_of work) of handle.now.held }
     requires within { IsWithin work }
     ensures answered { (of : Keys)
-        → IsOver (table_of (primitive_of work.entry)) (primitive_of work.entry) of handle.now.held
+        → IsOver standard_table (primitive_of work.entry) of handle.now.held
         → IsAnswered (lack_of work.entry) (answer of work.entry) out.old out.new result }
     ensures kept { OnErr result (out.new ≡ out.old) }
 {
@@ -126,11 +122,11 @@ fn seal(
     random: &[u8],
     out: &mut [u8],
 ) -> Result<usize, Refusal>
-    requires table { ⟦<Managers as KeyTable>⟧.table handle.now.managers.now ≡ table_of Aead }
-    requires over { (of : Keys) × IsOver (table_of Aead) Aead of handle.now.held }
+    requires table { ⟦<Managers as KeyTable>⟧.table handle.now.managers.now ≡ standard_table }
+    requires over { (of : Keys) × IsOver standard_table Aead of handle.now.held }
     requires plain_bound { length plain.now ≤ 2 ^ 30 }
     requires ad_bound { length ad.now ≤ 2 ^ 30 }
-    ensures answered { (of : Keys) → IsOver (table_of Aead) Aead of handle.now.held
+    ensures answered { (of : Keys) → IsOver standard_table Aead of handle.now.held
         → IsAnswered refusals.FewRandomBytes (option_map (λ (s : Sealed). s.bytes)
         (seal_answer of standard_table plain.now ad.now random.now)) out.old out.new result }
     ensures kept { OnErr result (out.new ≡ out.old) }
@@ -149,11 +145,11 @@ fn open(
     ad: &[u8],
     out: &mut [u8],
 ) -> Result<usize, Refusal>
-    requires table { ⟦<Managers as KeyTable>⟧.table handle.now.managers.now ≡ table_of Aead }
-    requires over { (of : Keys) × IsOver (table_of Aead) Aead of handle.now.held }
+    requires table { ⟦<Managers as KeyTable>⟧.table handle.now.managers.now ≡ standard_table }
+    requires over { (of : Keys) × IsOver standard_table Aead of handle.now.held }
     requires sealed_bound { length sealed.now ≤ 2 ^ 30 }
     requires ad_bound { length ad.now ≤ 2 ^ 30 }
-    ensures answered { (of : Keys) → IsOver (table_of Aead) Aead of handle.now.held
+    ensures answered { (of : Keys) → IsOver standard_table Aead of handle.now.held
         → IsAnswered refusals.Refused (open_answer of standard_table sealed.now ad.now) out.old
         out.new result }
     ensures kept { OnErr result (out.new ≡ out.old) }
@@ -169,11 +165,11 @@ fn dseal(
     ad: &[u8],
     out: &mut [u8],
 ) -> Result<usize, Refusal>
-    requires table { ⟦<Managers as KeyTable>⟧.table handle.now.managers.now ≡ table_of Daead }
-    requires over { (of : Keys) × IsOver (table_of Daead) Daead of handle.now.held }
+    requires table { ⟦<Managers as KeyTable>⟧.table handle.now.managers.now ≡ standard_table }
+    requires over { (of : Keys) × IsOver standard_table Daead of handle.now.held }
     requires plain_bound { length plain.now ≤ 2 ^ 30 }
     requires ad_bound { length ad.now ≤ 2 ^ 30 }
-    ensures answered { (of : Keys) → IsOver (table_of Daead) Daead of handle.now.held
+    ensures answered { (of : Keys) → IsOver standard_table Daead of handle.now.held
         → IsAnswered refusals.Refused (dseal_answer of standard_table plain.now ad.now) out.old
         out.new result }
     ensures kept { OnErr result (out.new ≡ out.old) }
@@ -189,11 +185,11 @@ fn dopen(
     ad: &[u8],
     out: &mut [u8],
 ) -> Result<usize, Refusal>
-    requires table { ⟦<Managers as KeyTable>⟧.table handle.now.managers.now ≡ table_of Daead }
-    requires over { (of : Keys) × IsOver (table_of Daead) Daead of handle.now.held }
+    requires table { ⟦<Managers as KeyTable>⟧.table handle.now.managers.now ≡ standard_table }
+    requires over { (of : Keys) × IsOver standard_table Daead of handle.now.held }
     requires sealed_bound { length sealed.now ≤ 2 ^ 30 }
     requires ad_bound { length ad.now ≤ 2 ^ 30 }
-    ensures answered { (of : Keys) → IsOver (table_of Daead) Daead of handle.now.held
+    ensures answered { (of : Keys) → IsOver standard_table Daead of handle.now.held
         → IsAnswered refusals.Refused (dopen_answer of standard_table sealed.now ad.now) out.old
         out.new result }
     ensures kept { OnErr result (out.new ≡ out.old) }
@@ -203,10 +199,10 @@ fn dopen(
 }
 
 fn tag(alloc: Global, handle: &Handle<'_>, body: &[u8], out: &mut [u8]) -> Result<usize, Refusal>
-    requires table { ⟦<Managers as KeyTable>⟧.table handle.now.managers.now ≡ table_of Mac }
-    requires over { (of : Keys) × IsOver (table_of Mac) Mac of handle.now.held }
+    requires table { ⟦<Managers as KeyTable>⟧.table handle.now.managers.now ≡ standard_table }
+    requires over { (of : Keys) × IsOver standard_table Mac of handle.now.held }
     requires body_bound { length body.now ≤ 2 ^ 30 }
-    ensures answered { (of : Keys) → IsOver (table_of Mac) Mac of handle.now.held
+    ensures answered { (of : Keys) → IsOver standard_table Mac of handle.now.held
         → IsAnswered refusals.Refused (tag_answer of standard_table body.now) out.old out.new
         result }
     ensures kept { OnErr result (out.new ≡ out.old) }
@@ -216,10 +212,10 @@ fn tag(alloc: Global, handle: &Handle<'_>, body: &[u8], out: &mut [u8]) -> Resul
 }
 
 fn verify(handle: &Handle<'_>, tag: &[u8], body: &[u8], out: &mut [u8]) -> Result<usize, Refusal>
-    requires table { ⟦<Managers as KeyTable>⟧.table handle.now.managers.now ≡ table_of Mac }
-    requires over { (of : Keys) × IsOver (table_of Mac) Mac of handle.now.held }
+    requires table { ⟦<Managers as KeyTable>⟧.table handle.now.managers.now ≡ standard_table }
+    requires over { (of : Keys) × IsOver standard_table Mac of handle.now.held }
     requires body_bound { length body.now ≤ 2 ^ 30 }
-    ensures answered { (of : Keys) → IsOver (table_of Mac) Mac of handle.now.held
+    ensures answered { (of : Keys) → IsOver standard_table Mac of handle.now.held
         → IsAnswered refusals.Refused (verified (verify_answer of standard_table tag.now body.now))
         out.old out.new result }
     ensures kept { OnErr result (out.new ≡ out.old) }
@@ -238,10 +234,10 @@ fn derive(
     size: usize,
     out: &mut [u8],
 ) -> Result<usize, Refusal>
-    requires table { ⟦<Managers as KeyTable>⟧.table handle.now.managers.now ≡ table_of Prf }
-    requires over { (of : Keys) × IsOver (table_of Prf) Prf of handle.now.held }
+    requires table { ⟦<Managers as KeyTable>⟧.table handle.now.managers.now ≡ standard_table }
+    requires over { (of : Keys) × IsOver standard_table Prf of handle.now.held }
     requires input_bound { length input.now ≤ 2 ^ 30 }
-    ensures answered { (of : Keys) → IsOver (table_of Prf) Prf of handle.now.held
+    ensures answered { (of : Keys) → IsOver standard_table Prf of handle.now.held
         → IsAnswered refusals.TooLong (derived (derive_answer of standard_table input.now size))
         out.old out.new result }
     ensures kept { OnErr result (out.new ≡ out.old) }

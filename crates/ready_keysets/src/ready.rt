@@ -2,12 +2,10 @@
 
 ghost use Rattle.std.specs.Prelude.{◌≡◌, ◌≢◌, IfOk, IfErr, OnErr};
 ghost use Rattle.key_msgs.specs.declared.primitive.Primitive.TheVariants.{Stream};
-ghost use Rattle.keyset_model.specs.Keyset.{Keys};
-ghost use Rattle.wrapped_prims.specs.Making.{IsOver};
-ghost use Rattle.ready_keysets.specs.Tables.{table_of};
-ghost use Rattle.ready_keysets.specs.Working.{IsAnswered, IsOutcome, IsReady, IsUnfit, IsWithin, answer, lack_of, primitive_of};
+ghost use Rattle.ready_keysets.specs.Working.{IsOutcome, IsReady, IsUnfit};
 
-use crate::{Refusal, Work, aead, daead, mac, prf};
+use crate::perform::{hold, perform};
+use crate::{Refusal, Work};
 use key_msgs::Primitive;
 use keyset_model::Keyset;
 use std::alloc::Global;
@@ -18,47 +16,6 @@ use wrapped_prims::HeldKeys;
 pub struct ReadyKeyset {
     pub(crate) keyset: Keyset,
     pub(crate) keys: HeldKeys,
-}
-
-/// The keys of a keyset, checked and prepared for a primitive.
-fn hold(alloc: Global, keyset: &Keyset, primitive: Primitive) -> Result<HeldKeys, Refusal>
-    requires no_stream { primitive ≢ Stream }
-    ensures primitive { IfOk result (λ keys. keys.primitive ≡ primitive) }
-    ensures over { IfOk result (λ keys. IsOver (table_of primitive) primitive keyset.now keys.held) }
-    ensures unfit { IfErr result (IsUnfit primitive keyset.now) }
-{
-    match primitive {
-        Primitive::Aead => aead::hold(alloc, keyset),
-        Primitive::Daead => daead::hold(alloc, keyset),
-        Primitive::Mac => mac::hold(alloc, keyset),
-        Primitive::Prf => prf::hold(alloc, keyset),
-        Primitive::Stream => unreachable!(),
-    }
-}
-
-/// Does work of the keys' primitive, within the bounds.
-fn perform(
-    alloc: Global,
-    keys: &mut HeldKeys,
-    work: Work<'_>,
-    out: &mut [u8],
-) -> Result<usize, Refusal>
-    requires over { (of : Keys)
-        × IsOver (table_of (primitive_of work)) (primitive_of work) of keys.old.held }
-    requires within { IsWithin work }
-    ensures held { keys.new.held ≡ keys.old.held }
-    ensures primitive { keys.new.primitive ≡ keys.old.primitive }
-    ensures answered { (of : Keys)
-        → IsOver (table_of (primitive_of work.entry)) (primitive_of work.entry) of keys.old.held
-        → IsAnswered (lack_of work.entry) (answer of work.entry) out.old out.new result }
-    ensures kept { OnErr result (out.new ≡ out.old) }
-{
-    match work {
-        Work::Seal(..) | Work::Open(..) => aead::perform(alloc, keys, work, out),
-        Work::Dseal(..) | Work::Dopen(..) => daead::perform(alloc, keys, work, out),
-        Work::Tag(_) | Work::Verify(..) => mac::perform(alloc, keys, work, out),
-        Work::Derive(..) => prf::perform(alloc, keys, work, out),
-    }
 }
 
 impl ReadyKeyset {

@@ -5,11 +5,11 @@ ghost use Rattle.key_msgs.specs.declared.primitive.Primitive.TheVariants.{Aead, 
 ghost use Rattle.keyset_model.specs.Keyset.{Keys};
 ghost use Rattle.wrapped_prims.specs.Making.{IsOver};
 ghost use Rattle.ready_keysets.specs.Streaming.{IsStreamsOf};
-ghost use Rattle.ready_keysets.specs.Tables.{table_of};
+ghost use Rattle.managers.specs.Standard.{standard_table};
 ghost use Rattle.ready_keysets.specs.Texts.{IsOf};
 ghost use Rattle.ready_keysets.specs.Unwrapping.{GivesInside, GivesMaster, IsNoStreamsInside, IsNotInside, inside_under, keyset_inside, master_in, refusal_of};
 
-use crate::{ReadyKeyset, Refusal, StreamKeyset, aead};
+use crate::{ReadyKeyset, Refusal, StreamKeyset};
 use key_msgs::Primitive;
 use keyset_json::{JsonError, read_json};
 use keyset_model::{Keyset, ReadError, read_binary};
@@ -102,7 +102,7 @@ fn keyset_inside(
         (keyset_inside encrypted.now encrypted_json master.now master_json) }
 {
     match read_master(alloc, master, master_json) {
-        Ok(keyset) => aead::unwrap(alloc, &keyset, encrypted, encrypted_json),
+        Ok(keyset) => unwrap(alloc, &keyset, encrypted, encrypted_json),
         Err(refusal) => Err(refusal),
     }
 }
@@ -128,19 +128,14 @@ fn read_master(alloc: Global, text: &[u8], json: bool) -> Result<Keyset, Refusal
     }
 }
 
-/// The keyset that an encrypted text gives under a master, by the standard managers of AEADs.
-pub(crate) fn unwrap_under(
-    alloc: Global,
-    master: &Keyset,
-    managers: &Managers,
-    encrypted: &[u8],
-    json: bool,
-) -> Result<Keyset, Refusal>
-    requires table { ⟦<Managers as KeyTable>⟧.table managers.now ≡ table_of Aead }
+/// The keyset that an encrypted text gives under a master, whose keys are prepared only for this
+/// call.
+fn unwrap(alloc: Global, master: &Keyset, encrypted: &[u8], json: bool) -> Result<Keyset, Refusal>
     requires bound { length encrypted.now ≤ 4194304 }
     ensures { GivesInside result (inside_under encrypted.now json master.now) }
 {
-    match Handle::new(alloc, master, managers, Primitive::Aead) {
+    let managers = Managers::standard();
+    match Handle::new(alloc, master, &managers, Primitive::Aead) {
         Ok(handle) => unwrap_by(alloc, &handle, encrypted, json),
         Err(HandleError::NoMemory) => Err(Refusal::NoMemory),
         Err(_) => Err(Refusal::UnfitMaster),
@@ -154,10 +149,10 @@ fn unwrap_by(
     encrypted: &[u8],
     json: bool,
 ) -> Result<Keyset, Refusal>
-    requires table { ⟦<Managers as KeyTable>⟧.table handle.now.managers.now ≡ table_of Aead }
-    requires over { (master : Keys) × IsOver (table_of Aead) Aead master handle.now.held }
+    requires table { ⟦<Managers as KeyTable>⟧.table handle.now.managers.now ≡ standard_table }
+    requires over { (master : Keys) × IsOver standard_table Aead master handle.now.held }
     requires bound { length encrypted.now ≤ 4194304 }
-    ensures { (master : Keys) → IsOver (table_of Aead) Aead master handle.now.held
+    ensures { (master : Keys) → IsOver standard_table Aead master handle.now.held
         → GivesInside result (inside_under encrypted.now json master) }
 {
     match unwrap_keyset(alloc, handle, encrypted, json) {

@@ -1,16 +1,15 @@
 -- Calls of the library: what they answer over the keyset of their handle, and of which keysets there are handles.
-use Rattle.std.proofs.Common.{arith, ◌≡◌, ◌∙◌, inl, inr, sym, refl, ap, subst, ℕ, ◌+◌, ◌≤◌, true, List, [], ◌∷◌, length, Option, Some, None, Result, Ok, Err}
+use Rattle.std.proofs.Common.{arith, ◌≡◌, ◌∙◌, inl, inr, sym, refl, ap, subst, ℕ, ◌≤◌, true, List, [], length, Option, Some, None, Result, Ok, Err}
 use Rattle.std.specs.Prelude.{IsErr, IsSome}
 use Rattle.std.specs.Result.{result_ok}
 use Rattle.std.proofs.lemmas.Option.{same_Some}
 use Rattle.key_msgs.specs.declared.primitive.Primitive.{Primitive}
-use Rattle.key_msgs.specs.declared.primitive.Primitive.TheVariants.{Aead, Daead, Mac, Prf, Stream}
+use Rattle.key_msgs.specs.declared.primitive.Primitive.TheVariants.{Aead}
 use Rattle.keyset_json.specs.Reading.{reads_json}
 use Rattle.keyset_model.specs.Keyset.{Keys}
 use Rattle.keyset_model.specs.Reading.{reads_binary}
 use Rattle.keyset_model.specs.declared.record.Record.{Record}
 use Rattle.managers.specs.Standard.{standard_table}
-use Rattle.ready_keysets.specs.Tables.{table_of}
 use Rattle.ready_keysets.specs.Texts.{IsNoKeyset, IsOf, ReadUnfit}
 use Rattle.ready_keysets.specs.Unwrapping.{IsNoWrapped, IsNoneInside, IsNotInside, Lack, inside_by, master_in, of_fit}
 use Rattle.ready_keysets.specs.Working.{IsOutcome, NeedsMore, primitive_of, verified}
@@ -31,7 +30,7 @@ use Rattle.tinkey_words.specs.declared.words.rows.Format.{Format}
 use Rattle.tinkey_words.specs.declared.words.rows.Format.TheVariants as formats
 use Rattle.tinkey_words.specs.Words.{AskedWork, primitive_for, to_dopen, to_dreseal, to_dseal, to_open, to_reseal, to_seal, to_tag, to_verify}
 use Rattle.wrapped_prims.specs.Answers.{Sealed, dopen_answer, dseal_answer, open_answer, seal_answer, tag_answer, verify_answer}
-use Rattle.wrapped_prims.specs.Fitness.{Unfit, fault_of_record, or_later, unfit, unfit_from}
+use Rattle.wrapped_prims.specs.Fitness.{Unfit, unfit}
 
 -- ---- the keyset of a handle
 
@@ -45,10 +44,10 @@ master_read formats.Json text over read = read
 master_read formats.Binary text over read = read
 
 -- what the two texts give, by what the encrypted one gives under the master
-pub inside_is : (master text : Written) (over keys : Keys) → keyset_of master ≡ Some over → GivesUnder over text keys → inside_of master text ≡ of_fit (unfit over Aead (table_of Aead)) (Ok keys)
+pub inside_is : (master text : Written) (over keys : Keys) → keyset_of master ≡ Some over → GivesUnder over text keys → inside_of master text ≡ of_fit (unfit over Aead standard_table) (Ok keys)
 inside_is master text over keys read gives =
     ap (inside_by text.bytes (is_json text.form)) (master_read master.form master.bytes over read)
-    ∙ ap (of_fit (unfit over Aead (table_of Aead))) gives
+    ∙ ap (of_fit (unfit over Aead standard_table)) gives
 
 pub fit_keys : (fault : Option (ℕ × Unfit)) (keys got : Keys) → of_fit fault (Ok keys) ≡ Ok got → got ≡ keys
 fit_keys None keys got e = let same : keys ≡ got = cc in sym same
@@ -57,7 +56,7 @@ fit_keys (Some fault) keys got e = absurd (cc)
 pub handle_keyset : (primitive : Primitive) (keys : Keys) (ready : ReadyKeyset) → IsHandle primitive keys ready → ready.keyset ≡ keys
 handle_keyset primitive keys ready (of_text written read made) = text_keyset written.form primitive written.bytes keys ready read made
 handle_keyset primitive keys ready (of_wrapped master text over read gives made) =
-    fit_keys (unfit over Aead (table_of Aead)) keys ready.keyset (sym (inside_is master text over keys read gives) ∙ made.keyset)
+    fit_keys (unfit over Aead standard_table) keys ready.keyset (sym (inside_is master text over keys read gives) ∙ made.keyset)
 
 text_primitive : (form : Format) (primitive : Primitive) (text : List ℕ) (ready : ReadyKeyset) → IsMadeIn form primitive text ready → ready.keys.primitive ≡ primitive
 text_primitive formats.Json primitive text ready made = made.primitive'
@@ -205,20 +204,6 @@ no_dreseal ad (calls.Derive input size) asks = absurd (cc)
 
 -- ---- of which keysets there are handles
 
--- the managers of one primitive serve it as those of all do
-own_fault : (primitive : Primitive) (r : Record) → fault_of_record (table_of primitive) primitive r ≡ fault_of_record standard_table primitive r
-own_fault Aead r = refl
-own_fault Daead r = refl
-own_fault Mac r = refl
-own_fault Prf r = refl
-own_fault Stream r = refl
-
-pub own_unfit : (primitive : Primitive) (place : ℕ) (records : List Record) → unfit_from place (table_of primitive) primitive records ≡ unfit_from place standard_table primitive records
-own_unfit primitive place [] = refl
-own_unfit primitive place (r ∷ records) =
-    ap (λ f. or_later place f (unfit_from (place + 1) (table_of primitive) primitive records)) (own_fault primitive r)
-    ∙ ap (or_later place (fault_of_record standard_table primitive r)) (own_unfit primitive (place + 1) records)
-
 pub ok_same : {X : Type 0} (read : Result Keys X) (a b : Keys) → read ≡ Ok a → read ≡ Ok b → a ≡ b
 ok_same (Ok got) a b is other = let first : got ≡ a = cc in let second : got ≡ b = cc in sym first ∙ second
 ok_same (Err why) a b is other = absurd (cc)
@@ -227,9 +212,8 @@ ok_same (Err why) a b is other = absurd (cc)
 not_unfit : {X : Type 0} {P : Type 0} (primitive : Primitive) (read : Result Keys X) (keys : Keys) → read ≡ Ok keys → unfit keys primitive standard_table ≡ None → ReadUnfit primitive read → P
 not_unfit primitive read keys is fit why =
     let same = ok_same read keys why.keys is why.keyset in
-    let served = own_unfit primitive 0 keys.records ∙ fit in
-    let some : IsSome (unfit keys primitive (table_of primitive)) = subst (λ (k : Keys). IsSome (unfit k primitive (table_of primitive))) (sym same) why.unfit' in
-    no_truth (subst (λ (o : Option (ℕ × Unfit)). IsSome o) served some)
+    let some : IsSome (unfit keys primitive standard_table) = subst (λ (k : Keys). IsSome (unfit k primitive standard_table)) (sym same) why.unfit' in
+    no_truth (subst (λ (o : Option (ℕ × Unfit)). IsSome o) fit some)
 
 -- nor is a result without an error one with an error
 pub not_failed : {X P : Type 0} (read : Result Keys X) (keys : Keys) → read ≡ Ok keys → IsErr read → P
@@ -279,15 +263,14 @@ inside_made primitive size master_size read keys refusals.NoMemory is fit within
 pub wrapped_handles_are_made : WrappedHandlesAreMade
 wrapped_handles_are_made primitive master text keys refusal serves why =
     let over = serves.over in
-    let fit = own_unfit Aead 0 over.records ∙ serves.opens.fit in
-    let is = inside_is master text over keys serves.opens.read serves.gives ∙ ap (λ (u : Option (ℕ × Unfit)). of_fit u (Ok keys)) fit in
+    let is = inside_is master text over keys serves.opens.read serves.gives ∙ ap (λ (u : Option (ℕ × Unfit)). of_fit u (Ok keys)) serves.opens.fit in
     inside_made primitive (length text.bytes) (length master.bytes) (inside_of master text) keys refusal is serves.fit serves.within serves.opens.within why
 
 -- what is held for a primitive serves it
 held_serves : {X : Type 0} (primitive : Primitive) (read : Result Keys X) (keys : Keys) (ready : ReadyKeyset) → ready.keyset ≡ keys → IsOf primitive read ready → unfit keys primitive standard_table ≡ None
 held_serves primitive read keys ready same made =
-    let held : unfit ready.keyset primitive (table_of primitive) ≡ None = subst (λ (p : Primitive). unfit ready.keyset p (table_of p) ≡ None) made.primitive' made.ready.fit in
-    sym (own_unfit primitive 0 keys.records) ∙ ap (λ (k : Keys). unfit k primitive (table_of primitive)) (sym same) ∙ held
+    let held : unfit ready.keyset primitive standard_table ≡ None = subst (λ (p : Primitive). unfit ready.keyset p standard_table ≡ None) made.primitive' made.ready.fit in
+    ap (λ (k : Keys). unfit k primitive standard_table) (sym same) ∙ held
 
 text_serves : (form : Format) (primitive : Primitive) (text : List ℕ) (keys : Keys) (ready : ReadyKeyset) → ready.keyset ≡ keys → IsMadeIn form primitive text ready → unfit keys primitive standard_table ≡ None
 text_serves formats.Json primitive text keys ready same made = held_serves primitive (reads_json text) keys ready same made

@@ -12,7 +12,6 @@ use Rattle.keyset_model.specs.Writing.{ReadKeysFit}
 use Rattle.keyset_model.specs.declared.record.Record.{Record}
 use Rattle.managers.specs.Standard.{standard_table}
 use Rattle.ready_keysets.specs.Streaming.{AreServing, IsNoStreams, IsOpenedWhole, IsSealedWhole, OpenAnswers, OpenEnds, OpensOn, ReadNoStreams, SealAnswers, SealsOn}
-use Rattle.ready_keysets.specs.Tables.{table_of}
 use Rattle.ready_keysets.specs.Unwrapping.{IsNoStreamsInside, IsNoWrapped, IsNoneInside, Lack, of_fit}
 use Rattle.ready_keysets.specs.declared.opening.StreamOpening.{StreamOpening}
 use Rattle.ready_keysets.specs.declared.refusal.Refusal.{Refusal}
@@ -32,7 +31,7 @@ use Rattle.tinkey_plans.specs.Steps.{keyset_limit}
 use Rattle.tinkey_plans.specs.Wrapping.{wrapped_limit}
 use Rattle.tinkey_session.proofs.Options.{clash, no_truth}
 use Rattle.tinkey_readable.proofs.AnywhereLemmas.{MadeStream, opens_made, ranges_made, stream_maker}
-use Rattle.tinkey_readable.proofs.CallLemmas.{fit_keys, inside_is, not_failed, ok_read, ok_same, own_unfit}
+use Rattle.tinkey_readable.proofs.CallLemmas.{fit_keys, inside_is, not_failed, ok_read, ok_same}
 use Rattle.tinkey_readable.proofs.ResealedStreamLemmas.{stream_all}
 use Rattle.tinkey_readable.proofs.StreamKeyLemmas.{opens_under, primary_gives}
 use Rattle.tinkey_readable.specs.Anywhere.{ServesAsMaster}
@@ -53,7 +52,7 @@ text_streams formats.Binary text keys made read is = (is.serving, same_Some _ _ 
 handle_streams : (keys : Keys) (made : StreamKeyset) → IsStreamHandle keys made → AreServing made × (made.keyset ≡ keys)
 handle_streams keys made (streams_of_text written read is) = text_streams written.form written.bytes keys made read is
 handle_streams keys made (streams_of_wrapped master text over read gives is) =
-    (is.serving, fit_keys (unfit over Aead (table_of Aead)) keys made.keyset (sym (inside_is master text over keys read gives) ∙ is.keyset))
+    (is.serving, fit_keys (unfit over Aead standard_table) keys made.keyset (sym (inside_is master text over keys read gives) ∙ is.keyset))
 
 handle_keys : (keys : Keys) (made : StreamKeyset) → IsStreamHandle keys made → made.keys.keys ≡ stream_keys keys
 handle_keys keys made handle =
@@ -313,8 +312,7 @@ wrapped_stream_handles_are_made master text keys refusal serves why = by serves.
     by : (found : Option Keys) → ServesAsMaster (Some master) found → GivesKeyset standard_table found text.form text.bytes keys → length text.bytes ≤ limit_under found → refusal ≡ refusals.NoMemory
     by None opens gives within = absurd opens
     by (Some over) opens gives within =
-        let fit = own_unfit Aead 0 over.records ∙ opens.fit in
-        let is = inside_is master text over keys opens.read gives ∙ ap (λ (u : Option (ℕ × Unfit)). of_fit u (Ok keys)) fit in
+        let is = inside_is master text over keys opens.read gives ∙ ap (λ (u : Option (ℕ × Unfit)). of_fit u (Ok keys)) opens.fit in
         inside_streams (length text.bytes) (length master.bytes) (inside_of master text) keys refusal is serves.fit within opens.within why
 
 pub stream_handles_serve : StreamHandlesServe

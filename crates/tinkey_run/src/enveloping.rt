@@ -20,7 +20,7 @@ use crate::steps::read_input_behind;
 use crate::using::{INPUT_LIMIT, SEALED_LIMIT, datum, handle_of, or_failed};
 use key_msgs::{Primitive, Template};
 use keyset_model::Keyset;
-use managers::{AeadManager, KeyManager, KeyTable, Managers};
+use managers::{AeadManager, FoundAead, KeyManager, KeyTable, Managers};
 use seal_wrap::{
     ENVELOPE_ROOM, EnvelopeFault, data_key, envelope_key, envelope_open, envelope_reseal,
     envelope_seal,
@@ -68,12 +68,12 @@ pub(crate) fn use_envelope<S: Source, E: Entropy, D: Store>(
     let input = read_input_behind(alloc, envelope_room(work), envelope_limit(work), source)?;
     match work {
         Envelope::Seal(ad) => {
-            seal_envelope(alloc, &handle, manager, &template, ad, input, entropy)
+            seal_envelope(alloc, &handle, &manager, &template, ad, input, entropy)
         }
         Envelope::Open(ad) => open_envelope(
             alloc,
             &handle,
-            manager,
+            &manager,
             envelope_sealer_of(&keyset, &input),
             ad,
             input,
@@ -81,7 +81,7 @@ pub(crate) fn use_envelope<S: Source, E: Entropy, D: Store>(
         Envelope::Reseal => reseal_envelope(
             alloc,
             &handle,
-            manager,
+            &manager,
             sealer_behind_room(&keyset, &input),
             input,
             entropy,
@@ -102,16 +102,13 @@ fn find_dek(name: &str) -> Result<Template, Status>
 }
 
 /// The manager of the keys of a template.
-fn find_manager<'m>(
-    managers: &'m Managers,
-    template: &Template,
-) -> Result<&'m dyn AeadManager, Status>
+fn find_manager<'m>(managers: &'m Managers, template: &Template) -> Result<FoundAead<'m>, Status>
     requires aead { IsAead (seen template.now) }
     ensures passes { (w : World) → PassesAs
-        (λ m. (⟦<dyn AeadManager as KeyManager>⟧ m.now.0).scheme m.now.1)
+        ⟦<FoundAead<'m> as KeyManager>⟧.scheme
         (finds_scheme (⟦<Managers as KeyTable>⟧.table managers.now) (seen template.now)) w result w }
     ensures url { IfOk result (λ m.
-        (⟦<dyn AeadManager as KeyManager>⟧ m.now.0).url m.now.1 ≡ url_made (seen template.now)) }
+        ⟦<FoundAead<'m> as KeyManager>⟧.url m ≡ url_made (seen template.now)) }
 {
     match data_key(managers, template) {
         Ok(manager) => Ok(manager),
@@ -120,10 +117,10 @@ fn find_manager<'m>(
 }
 
 /// eseal, in place: seals what follows the room for an envelope, under a data key made for it.
-fn seal_envelope<E: Entropy>(
+fn seal_envelope<M: AeadManager, E: Entropy>(
     alloc: Global,
     handle: &Handle<'_>,
-    manager: &dyn AeadManager,
+    manager: &M,
     template: &Template,
     ad: Datum<'_>,
     input: Vec<u8>,
@@ -132,14 +129,13 @@ fn seal_envelope<E: Entropy>(
     requires serving { IsServing (⟦<Managers as KeyTable>⟧.table handle.now.managers.now) Aead
         handle.now.held }
     requires aead { IsAead (seen template.now) }
-    requires url { (⟦<dyn AeadManager as KeyManager>⟧ manager.now.0).url manager.now.1
-        ≡ url_made (seen template.now) }
+    requires url { M.url manager.now ≡ url_made (seen template.now) }
     requires room { ENVELOPE_ROOM ≤ length input.items }
     requires bound { length input.items ≤ ENVELOPE_ROOM + 16777216 }
     ensures { (w : World) (keys : Keys)
         → IsOver (⟦<Managers as KeyTable>⟧.table handle.now.managers.now) Aead keys handle.now.held
         → Passes (envelopes (⟦<Managers as KeyTable>⟧.table handle.now.managers.now) keys
-        ((⟦<dyn AeadManager as KeyManager>⟧ manager.now.0).scheme manager.now.1)
+        (M.scheme manager.now)
         (seen template.now) (to_eseal (seen_datum ad.entry)) (drop ENVELOPE_ROOM input.items))
         (record w { entropy = E.state entropy.old }) result (record w { entropy = E.state entropy.new }) }
 {
@@ -161,10 +157,10 @@ fn seal_envelope<E: Entropy>(
 }
 
 /// eopen, in place: the plaintext of the envelope.
-fn open_envelope(
+fn open_envelope<M: AeadManager>(
     alloc: Global,
     handle: &Handle<'_>,
-    manager: &dyn AeadManager,
+    manager: &M,
     sealer: Sealer,
     ad: Datum<'_>,
     envelope: Vec<u8>,
@@ -176,7 +172,7 @@ fn open_envelope(
         → IsOver (⟦<Managers as KeyTable>⟧.table handle.now.managers.now) Aead keys handle.now.held
         → sealer ≡ envelope_sealer_of keys envelope.items
         → Passes (envelopes (⟦<Managers as KeyTable>⟧.table handle.now.managers.now) keys
-        ((⟦<dyn AeadManager as KeyManager>⟧ manager.now.0).scheme manager.now.1)
+        (M.scheme manager.now)
         row (to_eopen (seen_datum ad.entry)) envelope.items) w result w }
 {
     let ad = datum(alloc, ad)?;
@@ -195,10 +191,10 @@ fn sealer_behind_room(keyset: &Keyset, input: &[u8]) -> Sealer
 }
 
 /// ereseal, in place: the envelope after the room for one, with its data key sealed again.
-fn reseal_envelope<E: Entropy>(
+fn reseal_envelope<M: AeadManager, E: Entropy>(
     alloc: Global,
     handle: &Handle<'_>,
-    manager: &dyn AeadManager,
+    manager: &M,
     sealer: Sealer,
     input: Vec<u8>,
     entropy: &mut E,
@@ -211,7 +207,7 @@ fn reseal_envelope<E: Entropy>(
         → IsOver (⟦<Managers as KeyTable>⟧.table handle.now.managers.now) Aead keys handle.now.held
         → sealer ≡ envelope_sealer_of keys (drop ENVELOPE_ROOM input.items)
         → Passes (envelopes (⟦<Managers as KeyTable>⟧.table handle.now.managers.now) keys
-        ((⟦<dyn AeadManager as KeyManager>⟧ manager.now.0).scheme manager.now.1)
+        (M.scheme manager.now)
         row to_ereseal (drop ENVELOPE_ROOM input.items))
         (record w { entropy = E.state entropy.old }) result (record w { entropy = E.state entropy.new }) }
 {

@@ -13,3 +13,4 @@ pub mod RoomLemmas
 pub mod SealLemmas
 pub mod SameKeyLemmas
 pub mod TrialLemmas
+pub mod AloneLemmas

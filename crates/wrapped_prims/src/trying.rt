@@ -1,6 +1,7 @@
 //! Opening in place and verifying with kept keys: first those of a prefix, then those without.
 
 ghost use Rattle.std.specs.Prelude.{◌≡◌, ◌+◌, ◌^◌, ◌≤◌, drop, length, option_to_list, slice_get, take};
+ghost use Rattle.std.specs.Option.{option_map};
 ghost use Rattle.std.specs.Str.{bytes_eq};
 ghost use Rattle.key_msgs.specs.declared.primitive.Primitive.TheVariants.{Mac};
 ghost use Rattle.managers.specs.Table.{entries_of};
@@ -15,6 +16,16 @@ use key_msgs::Primitive;
 use managers::{AeadManager, DaeadManager, KeyTable, MacManager, Managers};
 use std::ops::Range;
 use tink_base::Trials;
+
+// The key that is kept at this place.
+fn kept_here(slots: &[Option<Kept>], place: usize) -> Option<&Kept>
+    ensures here { option_map (λ kept. kept.now) result ≡ kept_in slots.now place }
+{
+    match slots.get(place) {
+        Some(Some(kept)) => Some(kept),
+        Some(None) | None => None,
+    }
+}
 
 // One trial of a key.
 fn try_key(
@@ -63,9 +74,9 @@ fn try_at(
         (option_to_list (kept_in slots.now place)) trials.old }
     ensures few { trials.new ≤ trials.old + length (option_to_list (kept_in slots.now place)) }
 {
-    match slots.get(place) {
-        Some(Some(kept)) => try_key(managers, primitive, kept, part, ad, trials),
-        Some(None) | None => None,
+    match kept_here(slots, place) {
+        Some(kept) => try_key(managers, primitive, kept, part, ad, trials),
+        None => None,
     }
 }
 
@@ -180,9 +191,9 @@ fn verify_at(
         (option_to_list (kept_in slots.now place)) trials.old }
     ensures few { trials.new ≤ trials.old + length (option_to_list (kept_in slots.now place)) }
 {
-    match slots.get(place) {
-        Some(Some(kept)) => verify_key(managers, kept, tag, body, trials),
-        Some(None) | None => false,
+    match kept_here(slots, place) {
+        Some(kept) => verify_key(managers, kept, tag, body, trials),
+        None => false,
     }
 }
 

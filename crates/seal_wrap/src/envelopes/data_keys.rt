@@ -11,7 +11,7 @@ ghost use Rattle.seal_wrap.specs.Enveloping.{IsAead, IsDataKeyFault, url_made};
 
 use super::envelope::EnvelopeFault;
 use key_msgs::{Primitive, Template, make_key, write_key};
-use managers::{AeadManager, CheckFault, KeyManager, KeyTable, Managers, Prepared};
+use managers::{AeadManager, CheckFault, FoundAead, KeyManager, KeyTable, Managers, Prepared};
 use std::alloc::Global;
 use tink_base::{Entropy, NoMemory};
 
@@ -32,13 +32,13 @@ pub enum DataKeyFault {
 pub fn data_key<'m>(
     managers: &'m Managers,
     template: &Template,
-) -> Result<&'m dyn AeadManager, DataKeyFault>
+) -> Result<FoundAead<'m>, DataKeyFault>
     ensures aead { OnOk result (IsAead (seen template.now)) }
     ensures scheme { IfOk result (λ m. scheme_at (⟦<Managers as KeyTable>⟧.table managers.now) Aead
         (url_made (seen template.now))
-        ≡ Some ((⟦<dyn AeadManager as KeyManager>⟧ m.now.0).scheme m.now.1)) }
+        ≡ Some (⟦<FoundAead<'m> as KeyManager>⟧.scheme m)) }
     ensures url { IfOk result (λ m.
-        (⟦<dyn AeadManager as KeyManager>⟧ m.now.0).url m.now.1 ≡ url_made (seen template.now)) }
+        ⟦<FoundAead<'m> as KeyManager>⟧.url m ≡ url_made (seen template.now)) }
     ensures fault { IfErr result
         (IsDataKeyFault (⟦<Managers as KeyTable>⟧.table managers.now) (seen template.now)) }
 {
@@ -92,20 +92,17 @@ fn value_made(alloc: Global, template: &Template, random: &[u8]) -> Result<Vec<u
 }
 
 /// Makes a data key from random bytes drawn in one fill, and has its manager check it.
-pub(crate) fn make<E: Entropy>(
+pub(crate) fn make<M: AeadManager, E: Entropy>(
     alloc: Global,
-    manager: &dyn AeadManager,
+    manager: &M,
     template: &Template,
     entropy: &mut E,
 ) -> Result<DataKey, EnvelopeFault>
-    ensures made { IfOk result (λ made.
-        Makes ((⟦<dyn AeadManager as KeyManager>⟧ manager.now.0).scheme manager.now.1)
+    ensures made { IfOk result (λ made. Makes (M.scheme manager.now)
         (seen template.now) (E.state entropy.old) (E.state entropy.new) made.value.items made.key) }
-    ensures admitted { IfOk result (λ made.
-        IsAdmitted ((⟦<dyn AeadManager as KeyManager>⟧ manager.now.0).scheme manager.now.1) made.key) }
+    ensures admitted { IfOk result (λ made. IsAdmitted (M.scheme manager.now) made.key) }
     ensures known { Contains templates (seen template.now) }
-    ensures fault { IfErr result
-        (IsMakingFault ((⟦<dyn AeadManager as KeyManager>⟧ manager.now.0).scheme manager.now.1)
+    ensures fault { IfErr result (IsMakingFault (M.scheme manager.now)
         (seen template.now) (E.state entropy.old) (E.state entropy.new)) }
 {
     let random = draw(alloc, template.random_len(), entropy)?;

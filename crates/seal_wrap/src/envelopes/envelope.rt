@@ -21,7 +21,7 @@ ghost use Rattle.seal_wrap.specs.Enveloping.{IsAead, IsEnvelopeFault, IsEnvelopi
 
 use super::data_keys::{DataKey, draw, make};
 use key_msgs::{Rule, Template};
-use managers::{AeadManager, CheckFault, KeyManager, KeyTable, Managers, Prepared};
+use managers::{AeadManager, CheckFault, KeyTable, Managers, Prepared};
 use std::alloc::Global;
 use std::ops::Range;
 use tink_base::{Entropy, NoMemory, Trials, part_of};
@@ -74,17 +74,16 @@ fn with_before(sealed: &[u8], start: usize, mut bytes: Vec<u8>) -> Vec<u8>
 
 /// Makes the payload in place: seals what follows the first `at` bytes and room for an IV, under
 /// the data key, with an IV drawn in one fill, unless it has no bytes.
-fn seal_payload<E: Entropy>(
+fn seal_payload<M: AeadManager, E: Entropy>(
     alloc: Global,
-    manager: &dyn AeadManager,
+    manager: &M,
     key: &Prepared,
     at: usize,
     bytes: Vec<u8>,
     ad: &[u8],
     entropy: &mut E,
 ) -> Result<Vec<u8>, EnvelopeFault>
-    requires admitted { IsAdmitted
-        ((⟦<dyn AeadManager as KeyManager>⟧ manager.now.0).scheme manager.now.1) key.now }
+    requires admitted { IsAdmitted (M.scheme manager.now) key.now }
     requires room { at + iv_size key.now ≤ length bytes.items }
     requires plain_bound { length bytes.items ≤ at + iv_size key.now + 16777216 }
     requires ad_bound { length ad.now ≤ 16777216 }
@@ -104,10 +103,10 @@ fn seal_payload<E: Entropy>(
 
 /// Seals as `envelope_seal` does, under a data key that was made, whose message is short. The
 /// caller's contract states what was drawn before.
-fn seal_made<E: Entropy>(
+fn seal_made<M: AeadManager, E: Entropy>(
     alloc: Global,
     handle: &Handle<'_>,
-    manager: &dyn AeadManager,
+    manager: &M,
     made: &DataKey,
     bytes: Vec<u8>,
     ad: &[u8],
@@ -115,30 +114,25 @@ fn seal_made<E: Entropy>(
 ) -> Result<Vec<u8>, EnvelopeFault>
     requires over { (keys : Keys) × IsOver (⟦<Managers as KeyTable>⟧.table
         handle.now.managers.now) Aead keys handle.now.held }
-    requires admitted { IsAdmitted
-        ((⟦<dyn AeadManager as KeyManager>⟧ manager.now.0).scheme manager.now.1) made.now.key }
+    requires admitted { IsAdmitted (M.scheme manager.now) made.now.key }
     requires value_bound { length made.now.value.items ≤ 1000 }
     requires room { ENVELOPE_ROOM ≤ length bytes.items }
     requires bound { length bytes.items ≤ ENVELOPE_ROOM + 16777216 }
     requires ad_bound { length ad.now ≤ 16777216 }
     ensures sealed { (keys : Keys)
         → IsOver (⟦<Managers as KeyTable>⟧.table handle.now.managers.now) Aead keys handle.now.held
-        → (row : Row) (before : EntropyState)
-        → Makes ((⟦<dyn AeadManager as KeyManager>⟧ manager.now.0).scheme manager.now.1) row before
+        → (row : Row) (before : EntropyState) → Makes (M.scheme manager.now) row before
         (E.state entropy.old) made.now.value.items made.now.key
         → IfOk result (λ envelope. IsEnveloping keys
-        (⟦<Managers as KeyTable>⟧.table handle.now.managers.now)
-        ((⟦<dyn AeadManager as KeyManager>⟧ manager.now.0).scheme manager.now.1) row
+        (⟦<Managers as KeyTable>⟧.table handle.now.managers.now) (M.scheme manager.now) row
         (drop ENVELOPE_ROOM bytes.items) ad.now before (E.state entropy.new) envelope.items) }
     ensures no_fault { OnOk result (Stood (E.state entropy.old).faults (E.state entropy.new).faults) }
     ensures fault { (keys : Keys)
         → IsOver (⟦<Managers as KeyTable>⟧.table handle.now.managers.now) Aead keys handle.now.held
-        → (row : Row) (before : EntropyState)
-        → Makes ((⟦<dyn AeadManager as KeyManager>⟧ manager.now.0).scheme manager.now.1) row before
+        → (row : Row) (before : EntropyState) → Makes (M.scheme manager.now) row before
         (E.state entropy.old) made.now.value.items made.now.key
         → IfErr result (IsEnvelopeFault keys
-        (⟦<Managers as KeyTable>⟧.table handle.now.managers.now)
-        ((⟦<dyn AeadManager as KeyManager>⟧ manager.now.0).scheme manager.now.1) row
+        (⟦<Managers as KeyTable>⟧.table handle.now.managers.now) (M.scheme manager.now) row
         (drop ENVELOPE_ROOM bytes.items) ad.now before (E.state entropy.new)) }
 {
     let sealed = match handle.seal(alloc, &made.value, b"", entropy) {
@@ -166,10 +160,10 @@ fn seal_made<E: Entropy>(
 /// the new data key breaks a rule of the manager's scheme, and names the first one; then only the
 /// data key was drawn. After `NoMemory` none, one, two or all of the fills were drawn. The payload
 /// has no output prefix. No running time is promised.
-pub fn envelope_seal<E: Entropy>(
+pub fn envelope_seal<M: AeadManager, E: Entropy>(
     alloc: Global,
     handle: &Handle<'_>,
-    manager: &dyn AeadManager,
+    manager: &M,
     template: &Template,
     bytes: Vec<u8>,
     ad: &[u8],
@@ -178,24 +172,21 @@ pub fn envelope_seal<E: Entropy>(
     requires over { (keys : Keys) × IsOver (⟦<Managers as KeyTable>⟧.table
         handle.now.managers.now) Aead keys handle.now.held }
     requires aead { IsAead (seen template.now) }
-    requires url { (⟦<dyn AeadManager as KeyManager>⟧ manager.now.0).url manager.now.1
-        ≡ url_made (seen template.now) }
+    requires url { M.url manager.now ≡ url_made (seen template.now) }
     requires room { ENVELOPE_ROOM ≤ length bytes.items }
     requires bound { length bytes.items ≤ ENVELOPE_ROOM + 16777216 }
     requires ad_bound { length ad.now ≤ 16777216 }
     ensures sealed { (keys : Keys)
         → IsOver (⟦<Managers as KeyTable>⟧.table handle.now.managers.now) Aead keys handle.now.held
         → IfOk result (λ envelope. IsEnveloping keys
-        (⟦<Managers as KeyTable>⟧.table handle.now.managers.now)
-        ((⟦<dyn AeadManager as KeyManager>⟧ manager.now.0).scheme manager.now.1)
+        (⟦<Managers as KeyTable>⟧.table handle.now.managers.now) (M.scheme manager.now)
         (seen template.now) (drop ENVELOPE_ROOM bytes.items) ad.now (E.state entropy.old)
         (E.state entropy.new) envelope.items) }
     ensures no_fault { OnOk result (Stood (E.state entropy.old).faults (E.state entropy.new).faults) }
     ensures fault { (keys : Keys)
         → IsOver (⟦<Managers as KeyTable>⟧.table handle.now.managers.now) Aead keys handle.now.held
         → IfErr result (IsEnvelopeFault keys
-        (⟦<Managers as KeyTable>⟧.table handle.now.managers.now)
-        ((⟦<dyn AeadManager as KeyManager>⟧ manager.now.0).scheme manager.now.1)
+        (⟦<Managers as KeyTable>⟧.table handle.now.managers.now) (M.scheme manager.now)
         (seen template.now) (drop ENVELOPE_ROOM bytes.items) ad.now (E.state entropy.old)
         (E.state entropy.new)) }
 {
@@ -205,17 +196,17 @@ pub fn envelope_seal<E: Entropy>(
 
 /// Opens a payload in place under the data key with this message, and returns the plaintext's
 /// range.
-fn open_with(
+fn open_with<M: AeadManager>(
     alloc: Global,
-    manager: &dyn AeadManager,
+    manager: &M,
     value: &[u8],
     payload: &mut [u8],
     ad: &[u8],
 ) -> Result<Option<Range<usize>>, NoMemory>
     requires payload_bound { length payload.old ≤ 16778240 }
     requires ad_bound { length ad.now ≤ 16777216 }
-    ensures { IfOk result (OpensTo (open_payload payload.old ad.now (key_under
-        ((⟦<dyn AeadManager as KeyManager>⟧ manager.now.0).scheme manager.now.1) value.now))
+    ensures { IfOk result (OpensTo
+        (open_payload payload.old ad.now (key_under (M.scheme manager.now) value.now))
         payload.old payload.new) }
 {
     match manager.check(alloc, value) {
@@ -227,10 +218,10 @@ fn open_with(
 
 /// Opens in place what follows the length of the sealed data key, and returns the plaintext's
 /// range.
-fn open_behind(
+fn open_behind<M: AeadManager>(
     alloc: Global,
     handle: &Handle<'_>,
-    manager: &dyn AeadManager,
+    manager: &M,
     size: usize,
     bytes: &mut [u8],
     ad: &[u8],
@@ -242,8 +233,7 @@ fn open_behind(
     ensures { (keys : Keys)
         → IsOver (⟦<Managers as KeyTable>⟧.table handle.now.managers.now) Aead keys handle.now.held
         → IfOk result (OpensTo (open_behind keys
-        (⟦<Managers as KeyTable>⟧.table handle.now.managers.now)
-        ((⟦<dyn AeadManager as KeyManager>⟧ manager.now.0).scheme manager.now.1)
+        (⟦<Managers as KeyTable>⟧.table handle.now.managers.now) (M.scheme manager.now)
         size bytes.old ad.now) bytes.old bytes.new) }
 {
     if size == 0 || bytes.len() < size {
@@ -259,10 +249,10 @@ fn open_behind(
 }
 
 /// Opens an envelope in place, and returns the plaintext's range in `bytes`.
-fn open_envelope(
+fn open_envelope<M: AeadManager>(
     alloc: Global,
     handle: &Handle<'_>,
-    manager: &dyn AeadManager,
+    manager: &M,
     bytes: &mut [u8],
     ad: &[u8],
 ) -> Result<Option<Range<usize>>, NoMemory>
@@ -273,8 +263,7 @@ fn open_envelope(
     ensures { (keys : Keys)
         → IsOver (⟦<Managers as KeyTable>⟧.table handle.now.managers.now) Aead keys handle.now.held
         → IfOk result (OpensTo (open_envelope_of keys
-        (⟦<Managers as KeyTable>⟧.table handle.now.managers.now)
-        ((⟦<dyn AeadManager as KeyManager>⟧ manager.now.0).scheme manager.now.1)
+        (⟦<Managers as KeyTable>⟧.table handle.now.managers.now) (M.scheme manager.now)
         bytes.old ad.now) bytes.old bytes.new) }
 {
     let Some((size, _)) = bytes.split_first_chunk::<LENGTH>() else {
@@ -294,10 +283,10 @@ fn open_envelope(
 /// or above the number of bytes after them; no key of the handle's keyset opens the sealed data key
 /// with empty associated data; what it opens to isn't a valid key of the manager's scheme; or the
 /// payload doesn't open under that key. An error means that memory couldn't be allocated.
-pub fn envelope_open(
+pub fn envelope_open<M: AeadManager>(
     alloc: Global,
     handle: &Handle<'_>,
-    manager: &dyn AeadManager,
+    manager: &M,
     mut bytes: Vec<u8>,
     ad: &[u8],
 ) -> Result<Option<Vec<u8>>, NoMemory>
@@ -308,8 +297,7 @@ pub fn envelope_open(
     ensures { (keys : Keys)
         → IsOver (⟦<Managers as KeyTable>⟧.table handle.now.managers.now) Aead keys handle.now.held
         → IfOk result (λ plain. option_map (λ text. text.items) plain ≡ open_envelope_of keys
-        (⟦<Managers as KeyTable>⟧.table handle.now.managers.now)
-        ((⟦<dyn AeadManager as KeyManager>⟧ manager.now.0).scheme manager.now.1)
+        (⟦<Managers as KeyTable>⟧.table handle.now.managers.now) (M.scheme manager.now)
         bytes.items ad.now) }
 {
     match open_envelope(alloc, handle, manager, &mut bytes, ad)? {
@@ -328,14 +316,13 @@ pub struct EnvelopeKey {
 }
 
 /// The message of a data key, if it is a valid message of the manager's scheme.
-fn valid_message(
+fn valid_message<M: AeadManager>(
     alloc: Global,
-    manager: &dyn AeadManager,
+    manager: &M,
     value: Vec<u8>,
 ) -> Result<Option<Vec<u8>>, NoMemory>
-    ensures valid { (payload : List ℕ) → IfOk result (λ valid. has_value payload valid ≡ valid_parts
-        ((⟦<dyn AeadManager as KeyManager>⟧ manager.now.0).scheme manager.now.1)
-        value.items payload) }
+    ensures valid { (payload : List ℕ) → IfOk result (λ valid. has_value payload valid
+        ≡ valid_parts (M.scheme manager.now) value.items payload) }
     ensures same { IfOk result (λ valid. IfSome valid (λ message. message.items ≡ value.items)) }
 {
     match manager.check(alloc, &value) {
@@ -346,10 +333,10 @@ fn valid_message(
 }
 
 /// Opens the data key of this size at the front of `bytes`, and returns its message.
-fn key_behind(
+fn key_behind<M: AeadManager>(
     alloc: Global,
     handle: &Handle<'_>,
-    manager: &dyn AeadManager,
+    manager: &M,
     size: usize,
     bytes: &[u8],
 ) -> Result<Option<Vec<u8>>, NoMemory>
@@ -359,8 +346,8 @@ fn key_behind(
     ensures parts { (keys : Keys)
         → IsOver (⟦<Managers as KeyTable>⟧.table handle.now.managers.now) Aead keys handle.now.held
         → IfOk result (λ value. has_value (drop size bytes.now) value ≡ parts_behind keys
-        (⟦<Managers as KeyTable>⟧.table handle.now.managers.now)
-        ((⟦<dyn AeadManager as KeyManager>⟧ manager.now.0).scheme manager.now.1) size bytes.now) }
+        (⟦<Managers as KeyTable>⟧.table handle.now.managers.now) (M.scheme manager.now)
+        size bytes.now) }
     ensures short { IfOk result (λ value. IfSome value (λ value. length value.items ≤ size)) }
     ensures within { IfOk result (λ value. IfSome value (λ value. size ≤ length bytes.now)) }
 {
@@ -379,10 +366,10 @@ fn key_behind(
 /// or above the number of bytes after them; no key of the handle's keyset opens the sealed data key
 /// with empty associated data; or what it opens to isn't a valid key of the manager's scheme. An
 /// error means that memory couldn't be allocated.
-pub fn envelope_key(
+pub fn envelope_key<M: AeadManager>(
     alloc: Global,
     handle: &Handle<'_>,
-    manager: &dyn AeadManager,
+    manager: &M,
     bytes: &[u8],
 ) -> Result<Option<EnvelopeKey>, NoMemory>
     requires over { (keys : Keys) × IsOver (⟦<Managers as KeyTable>⟧.table
@@ -391,8 +378,7 @@ pub fn envelope_key(
     ensures parts { (keys : Keys)
         → IsOver (⟦<Managers as KeyTable>⟧.table handle.now.managers.now) Aead keys handle.now.held
         → IfOk result (λ key. option_map (parts_at bytes.now) key ≡ parts_in keys
-        (⟦<Managers as KeyTable>⟧.table handle.now.managers.now)
-        ((⟦<dyn AeadManager as KeyManager>⟧ manager.now.0).scheme manager.now.1) bytes.now) }
+        (⟦<Managers as KeyTable>⟧.table handle.now.managers.now) (M.scheme manager.now) bytes.now) }
     ensures place { IfOk result (λ key. IfSome key (λ key. key.payload ≤ length bytes.now)) }
     ensures value { IfOk result (λ key. IfSome key (λ key. 4 + length key.value.items ≤ key.payload)) }
 {

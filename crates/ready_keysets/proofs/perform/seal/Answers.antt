@@ -2,11 +2,9 @@ use Rattle.std.proofs.Common.{◌≡◌, List, ℕ, ap, refl, subst}
 use Rattle.std.specs.Prelude.{Some, None}
 use Rattle.std.specs.Option.{option_map}
 use Rattle.tink_base.specs.Drawn.{DrawnBytes}
-use Rattle.key_msgs.specs.declared.primitive.Primitive.TheVariants.{Aead}
 use Rattle.managers.specs.Standard.{standard_table}
 use Rattle.wrapped_prims.specs.Answers.{Sealed, seal_answer}
 use Rattle.ready_keysets.proofs.DrawnLemmas.{answered_some, few_bytes, sealed_with}
-use Rattle.ready_keysets.specs.Tables.{table_of}
 use Rattle.ready_keysets.specs.declared.refusal.Refusal.TheVariants as refusals
 use Rattle.ready_keysets.proofs.perform.seal.Goals as goal
 
@@ -16,7 +14,7 @@ returns-in-Ok-clause-answered g c = λ keys over.
     let made = rw c.requires.table at (c.in-Ok.ensures.sealed keys (rw c.requires.table over)) in
     let is = subst (λ (random : List ℕ). option_map (λ (s : Sealed). s.bytes) (seal_answer keys standard_table plain ad random) ≡ Some sealed)
     (ap (λ (s : DrawnBytes). s.left) c.new.ensures)
-    (sealed_with keys (table_of Aead) plain ad sealed c.new.result c.seal.new.entropy made) in
+    (sealed_with keys standard_table plain ad sealed c.new.result c.seal.new.entropy made) in
     answered_some refusals.FewRandomBytes (option_map (λ (s : Sealed). s.bytes) (seal_answer keys standard_table plain ad c.args.random.now))
     c.deref.result.now c.args.out.now c.put.new.out c.put.result (rw c.deref.ensures.value is) c.put.ensures.answered
 
@@ -26,6 +24,6 @@ returns-in-Err-EntropyFault-clause-answered g c = λ keys over.
     let fault = rw c.in-Err-EntropyFault.field-0-is at (rw c.requires.table at (c.in-Err-EntropyFault.ensures.fault keys (rw c.requires.table over))) in (
       subst (λ (random : List ℕ). option_map (λ (s : Sealed). s.bytes) (seal_answer keys standard_table plain ad random) ≡ None)
           (ap (λ (s : DrawnBytes). s.left) c.new.ensures)
-          (few_bytes keys (table_of Aead) plain ad c.new.result c.seal.new.entropy fault),
+          (few_bytes keys standard_table plain ad c.new.result c.seal.new.entropy fault),
       refl,
     )

@@ -1,9 +1,0 @@
-use Rattle.std.proofs.Common.{refl, length, ◌<◌}
-use Rattle.std.proofs.lemmas.Option.{slice_get-map, slice_get_read}
-use Rattle.std.proofs.lemmas.List.{length-map}
-use Rattle.managers.proofs.table.Managers.prf_at.Goals as goal
-
-pub returns : goal.returns
-returns g c =
-    let within : c.args.at < length c.args.self.now.prf.items = simp length-map at c.requires in
-    rw (slice_get-map, slice_get_read c.args.self.now.prf.items (length c.args.self.now.prf.items) c.args.at c.index.result.now refl within c.index.ensures) cc
