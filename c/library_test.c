@@ -5,8 +5,10 @@
  *                          For an encrypted keyset FORM and KEYSET are two, with a + between them: first those of the
  *                          encrypted text, and then those of its master
  *     library_test count   the same lines, each answered by how many allocations the call asked for, without its handle's
- *     library_test own     calls with null pointers, overlap, too little room and handles of others, and threads,
- *                          with an AEAD's keyset in the binary form as one such line on standard input
+ *     library_test own     calls with null pointers, lengths that are too long, overlap, too little room and handles of
+ *                          others, which status comes where several fit, and threads, with an AEAD's keyset in the
+ *                          binary form as one such line on standard input
+ *     library_test texts   the line of English of each status, each on a line of its own, in the order of their numbers
  *     library_test memory  calls with each of their allocations refused in turn, with a line KEYSET ENCRYPTED: an
  *                          AEAD's keyset in JSON, and a MAC's that is encrypted under it, in JSON too. It is linked
  *                          with --wrap for malloc, calloc and realloc
@@ -149,6 +151,95 @@ static void *seals_and_opens(void *unused) {
     return NULL;
 }
 
+enum { LONG = (1 << 30) + 1 };
+
+/* A key of HMAC with SHA-256, tags of 16 bytes and a value of zeros. */
+static const char MAC_KEYSET[] =
+    "{\"primaryKeyId\": 7, \"key\": [{\"keyData\": {\"typeUrl\": \"type.googleapis.com/google.crypto.tink.HmacKey\","
+    " \"value\": \"EgQIAxAQGiAAAAAAAAAAAAAAAAAAAAAAAAAAAAAAAAAAAAAAAAAAAA==\", \"keyMaterialType\": \"SYMMETRIC\"},"
+    " \"status\": \"ENABLED\", \"keyId\": 7, \"outputPrefixType\": \"TINK\"}]}";
+
+/* The whole room of an output may overlap nothing, whether it is written or not. */
+static void overlapping(tinkey_aead *keys, tinkey_mac *mac) {
+    unsigned char out[200], sealed[200], plain[1] = {7};
+    size_t made = 7, words[25];
+    memset(out, FILL, sizeof out);
+    EXPECT(tinkey_aead_seal(keys, out + 5, 1, "b", 1, out, 200, &made) == TINKEY_BAD_CALL);
+    EXPECT(tinkey_aead_seal(keys, "a", 1, out, 1, out, 200, &made) == TINKEY_BAD_CALL);
+    EXPECT(tinkey_aead_seal(keys, out + 199, 1, "b", 1, out, 200, &made) == TINKEY_BAD_CALL);
+    EXPECT(tinkey_aead_seal(keys, "a", 1, out + 199, 1, out, 200, &made) == TINKEY_BAD_CALL);
+    EXPECT(tinkey_aead_seal(keys, out, 50, "b", 1, out + 49, 100, &made) == TINKEY_BAD_CALL);
+    EXPECT(tinkey_aead_seal(keys, "a", 1, "b", 1, words, sizeof words, words + 24) == TINKEY_BAD_CALL);
+    EXPECT(tinkey_aead_seal(keys, words, sizeof words, "b", 1, out, 200, words + 24) == TINKEY_BAD_CALL);
+    EXPECT(tinkey_aead_seal(keys, "a", 1, words, sizeof words, out, 200, words) == TINKEY_BAD_CALL);
+    EXPECT(tinkey_aead_open(keys, out + 199, 1, "b", 1, out, 200, &made) == TINKEY_BAD_CALL);
+    EXPECT(tinkey_daead_seal((tinkey_daead *)keys, out + 199, 1, "b", 1, out, 200, &made) == TINKEY_BAD_CALL);
+    EXPECT(tinkey_daead_open((tinkey_daead *)keys, out + 199, 1, "b", 1, out, 200, &made) == TINKEY_BAD_CALL);
+    EXPECT(tinkey_mac_tag(mac, out + 199, 1, out, 200, &made) == TINKEY_BAD_CALL);
+    EXPECT(tinkey_prf_derive((tinkey_prf *)keys, out + 199, 1, out, 200) == TINKEY_BAD_CALL);
+    EXPECT(is_filled(out, sizeof out) && made == 7);
+    /* what only stands side by side is taken */
+    out[0] = 7;
+    EXPECT(tinkey_aead_seal(keys, out, 1, out, 1, out + 1, 199, &made) == TINKEY_OK);
+    memcpy(sealed, out + 1, made);
+    memset(out, FILL, sizeof out);
+    out[199] = 7;
+    EXPECT(tinkey_aead_open(keys, sealed, made, out + 199, 1, out, 199, &made) == TINKEY_OK);
+    EXPECT(made == 1 && out[0] == plain[0]);
+    EXPECT(tinkey_aead_seal(keys, "a", 1, "b", 1, words, 24 * sizeof *words, words + 24) == TINKEY_OK);
+    EXPECT(words[24] > 1 && words[24] < 24 * sizeof *words);
+}
+
+/* Lengths and rooms over PTRDIFF_MAX are no call, and inputs over 2^30 too long. */
+static void huge(const unsigned char *keyset, size_t size, tinkey_aead *keys, tinkey_mac *mac) {
+    unsigned char out[200];
+    size_t made = 7, over = (size_t)PTRDIFF_MAX + 1;
+    tinkey_aead *none = NULL;
+    memset(out, FILL, sizeof out);
+    for (int i = 0; i < 2; i++, over = SIZE_MAX) {
+        EXPECT(tinkey_aead_new(keyset, over, &none) == TINKEY_BAD_CALL);
+        EXPECT(tinkey_aead_new_binary(keyset, over, &none) == TINKEY_BAD_CALL);
+        EXPECT(tinkey_aead_new_wrapped("{}", over, TINKEY_JSON, keyset, size, TINKEY_BINARY, &none) == TINKEY_BAD_CALL);
+        EXPECT(tinkey_aead_new_wrapped("{}", 2, TINKEY_JSON, keyset, over, TINKEY_BINARY, &none) == TINKEY_BAD_CALL);
+        EXPECT(tinkey_aead_seal(keys, "a", over, "b", 1, out, 200, &made) == TINKEY_BAD_CALL);
+        EXPECT(tinkey_aead_seal(keys, "a", 1, "b", over, out, 200, &made) == TINKEY_BAD_CALL);
+        EXPECT(tinkey_aead_seal(keys, "a", 1, "b", 1, out, over, &made) == TINKEY_BAD_CALL);
+        EXPECT(tinkey_aead_seal(keys, NULL, 0, NULL, 0, out, over, &made) == TINKEY_BAD_CALL);
+        EXPECT(tinkey_aead_open(keys, "a", 1, "b", 1, out, over, &made) == TINKEY_BAD_CALL);
+        EXPECT(tinkey_mac_tag(mac, "a", 1, out, over, &made) == TINKEY_BAD_CALL);
+        EXPECT(tinkey_mac_verify(mac, "a", over, "b", 1) == TINKEY_BAD_CALL);
+        EXPECT(tinkey_mac_verify(mac, "a", 1, "b", over) == TINKEY_BAD_CALL);
+        EXPECT(tinkey_prf_derive((tinkey_prf *)keys, "a", 1, out, over) == TINKEY_BAD_CALL);
+    }
+    EXPECT(tinkey_aead_new(keyset, LONG, &none) == TINKEY_TOO_LONG);
+    EXPECT(tinkey_aead_new_binary(keyset, LONG, &none) == TINKEY_TOO_LONG);
+    EXPECT(tinkey_aead_seal(keys, "a", LONG, "b", 1, out, 200, &made) == TINKEY_TOO_LONG);
+    EXPECT(tinkey_aead_seal(keys, "a", 1, "b", (size_t)1 << 31, out, 200, &made) == TINKEY_TOO_LONG);
+    EXPECT(tinkey_aead_open(keys, "a", LONG, "b", 1, out, 200, &made) == TINKEY_TOO_LONG);
+    EXPECT(tinkey_mac_tag(mac, "a", LONG, out, 200, &made) == TINKEY_TOO_LONG);
+    EXPECT(tinkey_mac_verify(mac, "a", 1, "b", LONG) == TINKEY_TOO_LONG);
+    EXPECT(!none && is_filled(out, sizeof out) && made == 7);
+}
+
+/* Which status comes where several fit, in the order of the header. */
+static void in_order(tinkey_aead *keys, const unsigned char *sealed, size_t size) {
+    unsigned char out[200];
+    size_t made = 7;
+    memset(out, FILL, sizeof out);
+    tinkey_daead *other = (tinkey_daead *)keys;
+    EXPECT(tinkey_daead_seal(other, NULL, 1, "b", 1, out, 0, &made) == TINKEY_BAD_CALL);
+    EXPECT(tinkey_daead_seal(other, out, 1, "b", 1, out, 1, &made) == TINKEY_BAD_CALL);
+    EXPECT(tinkey_daead_seal(other, "a", SIZE_MAX, "b", 1, out, 0, &made) == TINKEY_BAD_CALL);
+    EXPECT(tinkey_daead_seal(other, "a", LONG, "b", 1, out, 0, &made) == TINKEY_OTHER_PRIMITIVE);
+    EXPECT(tinkey_daead_open(other, "a", 1, "b", 1, out, 0, &made) == TINKEY_OTHER_PRIMITIVE);
+    EXPECT(tinkey_aead_seal(keys, "a", LONG, "b", 1, out, 0, &made) == TINKEY_TOO_LONG);
+    EXPECT(tinkey_aead_open(keys, "a", LONG, "b", 1, out, 0, &made) == TINKEY_TOO_LONG);
+    EXPECT(tinkey_aead_open(keys, sealed, size, "b", 1, out, 0, &made) == TINKEY_REFUSED);
+    EXPECT(tinkey_aead_open(keys, sealed, size, "ad", 2, out, 3, &made) == TINKEY_NO_ROOM);
+    EXPECT(is_filled(out, sizeof out) && made == 7);
+    EXPECT(tinkey_aead_open(keys, sealed, size, "ad", 2, out, 4, &made) == TINKEY_OK && made == 4);
+}
+
 static void own(char *line) {
     unsigned char *keyset, out[200], again[200], back[200];
     size_t size = unhex(strtok(line, " \n"), &keyset), made = 7, other = 7;
@@ -158,17 +249,18 @@ static void own(char *line) {
     EXPECT(tinkey_aead_new_binary(keyset, size, NULL) == TINKEY_BAD_CALL);
     EXPECT(tinkey_aead_new_binary(NULL, 0, &keys) == TINKEY_NO_KEYSET);
     EXPECT(tinkey_aead_new(keyset, size, &keys) == TINKEY_NO_KEYSET);
-    EXPECT(tinkey_aead_new_binary(keyset, SIZE_MAX, &keys) == TINKEY_TOO_LONG);
-    EXPECT(tinkey_aead_new_binary(keyset, ((size_t)1 << 30) + 1, &keys) == TINKEY_TOO_LONG);
     EXPECT(tinkey_aead_new_wrapped(NULL, 3, TINKEY_JSON, keyset, size, TINKEY_BINARY, &keys) == TINKEY_BAD_CALL);
     EXPECT(tinkey_aead_new_wrapped("{}", 2, TINKEY_JSON, NULL, 3, TINKEY_BINARY, &keys) == TINKEY_BAD_CALL);
     EXPECT(tinkey_aead_new_wrapped("{}", 2, (tinkey_form)2, keyset, size, TINKEY_BINARY, &keys) == TINKEY_BAD_CALL);
     EXPECT(tinkey_aead_new_wrapped("{}", 2, TINKEY_JSON, keyset, size, (tinkey_form)-1, &keys) == TINKEY_BAD_CALL);
     EXPECT(tinkey_aead_new_wrapped("{}", 2, TINKEY_JSON, keyset, size, TINKEY_BINARY, NULL) == TINKEY_BAD_CALL);
-    EXPECT(tinkey_aead_new_wrapped("{}", SIZE_MAX, TINKEY_JSON, keyset, size, TINKEY_BINARY, &keys) == TINKEY_TOO_LONG);
-    EXPECT(tinkey_aead_new_wrapped("{}", 2, TINKEY_JSON, keyset, SIZE_MAX, TINKEY_BINARY, &keys) == TINKEY_TOO_LONG);
     EXPECT(tinkey_aead_new_wrapped("{}", 2, TINKEY_JSON, NULL, 0, TINKEY_BINARY, &keys) == TINKEY_NO_MASTER);
     EXPECT(tinkey_aead_new_wrapped("{}", 2, TINKEY_JSON, keyset, size, TINKEY_BINARY, &keys) == TINKEY_REFUSED);
+    /* of two faults the earlier step's */
+    EXPECT(tinkey_aead_new_wrapped("[]", 2, TINKEY_JSON, NULL, 0, TINKEY_BINARY, &keys) == TINKEY_NO_MASTER);
+    EXPECT(tinkey_aead_new_wrapped("[]", 2, TINKEY_JSON, keyset, size, TINKEY_BINARY, &keys) == TINKEY_NO_WRAPPED);
+    /* a keyset in clear is no encrypted one, but reads as one */
+    EXPECT(tinkey_aead_new_wrapped(keyset, size, TINKEY_BINARY, keyset, size, TINKEY_BINARY, &keys) == TINKEY_REFUSED);
     EXPECT(keys == (tinkey_aead *)out);
     errno = 77;
     EXPECT(tinkey_aead_new_binary(keyset, size, &keys) == TINKEY_OK);
@@ -177,12 +269,9 @@ static void own(char *line) {
     EXPECT(tinkey_aead_seal(keys, "a", 1, NULL, 1, out, 200, &made) == TINKEY_BAD_CALL);
     EXPECT(tinkey_aead_seal(keys, "a", 1, "b", 1, NULL, 200, &made) == TINKEY_BAD_CALL);
     EXPECT(tinkey_aead_seal(keys, "a", 1, "b", 1, out, 200, NULL) == TINKEY_BAD_CALL);
-    EXPECT(tinkey_aead_seal(keys, out + 5, 1, "b", 1, out, 200, &made) == TINKEY_BAD_CALL);
-    EXPECT(tinkey_aead_seal(keys, "a", 1, out, 1, out, 200, &made) == TINKEY_BAD_CALL);
-    EXPECT(tinkey_aead_seal(keys, "a", SIZE_MAX, "b", 1, out, 200, &made) == TINKEY_TOO_LONG);
-    EXPECT(tinkey_aead_seal(keys, "a", 1, "b", (size_t)1 << 31, out, 200, &made) == TINKEY_TOO_LONG);
+    EXPECT(tinkey_aead_seal(keys, NULL, 0, NULL, 0, NULL, 200, &made) == TINKEY_BAD_CALL);
     EXPECT(is_filled(out, sizeof out) && made == 7);
-    EXPECT(tinkey_aead_seal(keys, NULL, 0, NULL, 0, out, SIZE_MAX, &made) == TINKEY_OK);
+    EXPECT(tinkey_aead_seal(keys, NULL, 0, NULL, 0, out, sizeof out, &made) == TINKEY_OK);
     EXPECT(tinkey_aead_seal(keys, NULL, 0, NULL, 0, again, 200, &other) == TINKEY_OK);
     EXPECT(made == other && memcmp(out, again, made));
     EXPECT(tinkey_aead_open(keys, out, made, NULL, 0, NULL, 0, &other) == TINKEY_OK && other == 0);
@@ -200,6 +289,12 @@ static void own(char *line) {
     EXPECT(is_filled(back, sizeof back) && other == 0);
     tinkey_mac *mac = NULL;
     EXPECT(tinkey_mac_new_binary(keyset, size, &mac) == TINKEY_UNFIT_KEY && !mac);
+    EXPECT(tinkey_mac_new(MAC_KEYSET, sizeof MAC_KEYSET - 1, &mac) == TINKEY_OK);
+    overlapping(keys, mac);
+    huge(keyset, size, keys, mac);
+    EXPECT(tinkey_aead_seal(keys, "body", 4, "ad", 2, again, sizeof again, &made) == TINKEY_OK);
+    in_order(keys, again, made);
+    tinkey_mac_free(mac);
     pthread_t threads[4];
     shared = keys;
     for (int i = 0; i < 4; i++)
@@ -214,7 +309,6 @@ static void own(char *line) {
     tinkey_daead_free(NULL);
     tinkey_mac_free(NULL);
     tinkey_prf_free(NULL);
-    EXPECT(!strcmp(tinkey_status_text(TINKEY_OK), "done"));
     EXPECT(!strcmp(tinkey_status_text((tinkey_status)99), "no such status"));
     free(keyset);
     printf(failed ? "FAILED\n" : "all so\n");
@@ -285,6 +379,11 @@ static void memory(char *line) {
 
 int main(int count, char **words) {
     static char line[1 << 24];
+    if (count > 1 && !strcmp(words[1], "texts")) {
+        for (int status = TINKEY_OK; status <= TINKEY_CALLBACK; status++)
+            printf("%s\n", tinkey_status_text((tinkey_status)status));
+        return 0;
+    }
     counts = count > 1 && !strcmp(words[1], "count");
     while (fgets(line, sizeof line, stdin)) {
         if (count > 1 && !strcmp(words[1], "own")) own(line);

@@ -7,8 +7,9 @@
  *                          the encrypted text, and then those of its master. PIECE is how many bytes are handed in at
  *                          once, and RANDOM is what getrandom gives. Each output first has no room, then a byte too
  *                          little, and then just enough
- *     stream_test own      null pointers, overlap, handles of others, calls behind the end, and callbacks that fail,
- *                          with a stream's keyset in the binary form as one such line
+ *     stream_test own      null pointers, lengths that are too long, overlap, handles of others, what waits, calls
+ *                          behind the end, and callbacks that fail, with a line KEYSET STREAM PLAIN: a stream's keyset
+ *                          in the binary form, and a stream of two segments or more without associated data
  *     stream_test memory   calls with each of their allocations refused in turn, with a line KEYSET STREAM
  *
  * It is linked with --wrap for malloc, calloc, realloc and getrandom. An answer is STATUS BYTES, with the bytes that
@@ -130,13 +131,20 @@ static tinkey_status called(struct stream *of, int ends, const void *in, size_t 
     return status;
 }
 
+/* How many bytes wait. */
+static size_t waiting(struct stream *of) {
+    return of->sealing ? tinkey_sealing_waiting(of->sealing) : tinkey_opening_waiting(of->opening);
+}
+
 /* A step whose output first has no room, then a byte too little, and then just enough. */
 static tinkey_status step(struct stream *of, int ends, const void *in, size_t size, struct bytes *all) {
     tinkey_status status = called(of, ends, in, size, 0, all);
     if (status != TINKEY_NO_ROOM) return status;
-    size_t room = of->sealing ? tinkey_sealing_waiting(of->sealing) : tinkey_opening_waiting(of->opening);
-    if (!room || called(of, ends, NULL, 0, room - 1, all) != TINKEY_NO_ROOM) of->is_broken = 1;
-    return called(of, ends, NULL, 0, room, all);
+    size_t room = waiting(of);
+    if (!room || called(of, ends, NULL, 0, room - 1, all) != TINKEY_NO_ROOM || waiting(of) != room) of->is_broken = 1;
+    status = called(of, ends, NULL, 0, room, all);
+    if (waiting(of)) of->is_broken = 1;
+    return status;
 }
 
 static tinkey_status in_pieces(struct stream *of, struct bytes in, size_t piece, struct bytes *all) {
@@ -144,11 +152,12 @@ static tinkey_status in_pieces(struct stream *of, struct bytes in, size_t piece,
     for (size_t at = 0; !status && at < in.size; at += piece)
         status = step(of, 0, in.at + at, in.size - at < piece ? in.size - at : piece, all);
     if (!status) status = step(of, 1, NULL, 0, all);
-    /* behind the end, and behind a refusal */
+    /* behind the end, and behind a refusal, before which something may have waited */
     size_t before = all->size;
+    if (waiting(of)) of->is_broken = 1;
     tinkey_status again = called(of, 1, NULL, 0, 100, all);
     if (called(of, 0, "more", 4, 100, all) != TINKEY_ENDED || again != (status ? TINKEY_ENDED : TINKEY_OK)
-        || all->size != before)
+        || all->size != before || waiting(of))
         of->is_broken = 1;
     return status;
 }
@@ -261,8 +270,51 @@ static void answer(char *line) {
 
 /* ---- What a caller can do wrong. */
 
+/* What waits until a stream is over, and that nothing does then: the stream is one of two segments or more. */
+static void waits(tinkey_streaming *keys, struct bytes stream, struct bytes plain) {
+    unsigned char out[4096];
+    size_t made = 7, header = stream.at[0];
+    struct stream seals = {NULL, NULL, 0}, opens = {NULL, NULL, 0}, cut = {NULL, NULL, 0}, changed = {NULL, NULL, 0};
+    EXPECT(tinkey_sealing_new(keys, NULL, 0, &seals.sealing) == TINKEY_OK);
+    EXPECT(tinkey_opening_new(keys, NULL, 0, &opens.opening) == TINKEY_OK);
+    EXPECT(tinkey_opening_new(keys, NULL, 0, &cut.opening) == TINKEY_OK);
+    EXPECT(tinkey_opening_new(keys, NULL, 0, &changed.opening) == TINKEY_OK);
+    /* of a sealing the header waits, and a call for which there is room gives it with its own */
+    EXPECT(waiting(&seals) == header && waiting(&opens) == 0);
+    EXPECT(call(&seals, 0, NULL, 0, NULL, 0, &made) == TINKEY_NO_ROOM && waiting(&seals) == header);
+    EXPECT(call(&seals, 0, plain.at, 1, out, header, &made) == TINKEY_OK && made == header && waiting(&seals) == 0);
+    /* the end waits for room too, and meanwhile the stream takes no more */
+    EXPECT(call(&seals, 1, NULL, 0, out, 0, &made) == TINKEY_NO_ROOM && waiting(&seals) > 0);
+    EXPECT(call(&seals, 0, "more", 4, out, sizeof out, &made) == TINKEY_ENDED && waiting(&seals) > 0);
+    EXPECT(call(&seals, 1, NULL, 0, out, sizeof out, &made) == TINKEY_OK && made > 0 && waiting(&seals) == 0);
+    EXPECT(call(&seals, 1, NULL, 0, NULL, 0, &made) == TINKEY_OK && made == 0);
+    /* the first segment waits until the stream is refused, at its end or by a byte, and for nobody from then on */
+    EXPECT(call(&opens, 0, stream.at, stream.size, NULL, 0, &made) == TINKEY_NO_ROOM);
+    size_t there = waiting(&opens);
+    EXPECT(there > 0 && there < plain.size);
+    EXPECT(call(&opens, 1, NULL, 0, NULL, 0, &made) == TINKEY_NO_ROOM && waiting(&opens) == plain.size);
+    EXPECT(call(&opens, 1, NULL, 0, out, sizeof out, &made) == TINKEY_OK && made == plain.size);
+    EXPECT(!memcmp(out, plain.at, plain.size) && waiting(&opens) == 0);
+    EXPECT(call(&cut, 0, stream.at, stream.size - 1, NULL, 0, &made) == TINKEY_NO_ROOM && waiting(&cut) > 0);
+    EXPECT(call(&cut, 1, NULL, 0, out, sizeof out, &made) == TINKEY_REFUSED && waiting(&cut) == 0);
+    EXPECT(call(&cut, 1, NULL, 0, out, sizeof out, &made) == TINKEY_ENDED && waiting(&cut) == 0);
+    unsigned char *other = malloc(stream.size);
+    if (!other) exit(3);
+    memcpy(other, stream.at, stream.size);
+    other[stream.size - 1] ^= 1;
+    EXPECT(call(&changed, 0, other, stream.size, NULL, 0, &made) == TINKEY_NO_ROOM && waiting(&changed) == there);
+    EXPECT(call(&changed, 1, NULL, 0, NULL, 0, &made) == TINKEY_REFUSED && waiting(&changed) == 0);
+    EXPECT(call(&changed, 0, NULL, 0, out, sizeof out, &made) == TINKEY_ENDED && waiting(&changed) == 0);
+    free(other);
+    tinkey_sealing_free(seals.sealing);
+    tinkey_opening_free(opens.opening);
+    tinkey_opening_free(cut.opening);
+    tinkey_opening_free(changed.opening);
+}
+
 static void own(char *line) {
-    struct bytes keyset = unhex(strtok(line, " \n")), sealed = {NULL, 0}, opened = {NULL, 0};
+    struct bytes keyset = unhex(strtok(line, " \n")), stream = unhex(strtok(NULL, " \n"));
+    struct bytes plain = unhex(strtok(NULL, " \n")), sealed = {NULL, 0}, opened = {NULL, 0};
     unsigned char out[200];
     size_t made = 7;
     memset(out, FILL, sizeof out);
@@ -272,7 +324,8 @@ static void own(char *line) {
     EXPECT(tinkey_streaming_new_binary(NULL, 3, &keys) == TINKEY_BAD_CALL);
     EXPECT(tinkey_streaming_new_binary(keyset.at, keyset.size, NULL) == TINKEY_BAD_CALL);
     EXPECT(tinkey_streaming_new(keyset.at, keyset.size, &keys) == TINKEY_NO_KEYSET);
-    EXPECT(tinkey_streaming_new_binary(keyset.at, SIZE_MAX, &keys) == TINKEY_TOO_LONG);
+    EXPECT(tinkey_streaming_new_binary(keyset.at, SIZE_MAX, &keys) == TINKEY_BAD_CALL);
+    EXPECT(tinkey_streaming_new_binary(keyset.at, (size_t)PTRDIFF_MAX + 1, &keys) == TINKEY_BAD_CALL);
     EXPECT(tinkey_streaming_new_binary(keyset.at, ((size_t)1 << 30) + 1, &keys) == TINKEY_TOO_LONG);
     tinkey_aead *aead = NULL;
     EXPECT(tinkey_aead_new_binary(keyset.at, keyset.size, &aead) == TINKEY_UNFIT_KEY && !aead);
@@ -281,7 +334,8 @@ static void own(char *line) {
     EXPECT(tinkey_sealing_new(NULL, "ad", 2, &sealing) == TINKEY_BAD_CALL);
     EXPECT(tinkey_sealing_new(keys, NULL, 2, &sealing) == TINKEY_BAD_CALL);
     EXPECT(tinkey_sealing_new(keys, "ad", 2, NULL) == TINKEY_BAD_CALL);
-    EXPECT(tinkey_sealing_new(keys, "ad", SIZE_MAX, &sealing) == TINKEY_TOO_LONG);
+    EXPECT(tinkey_sealing_new(keys, "ad", SIZE_MAX, &sealing) == TINKEY_BAD_CALL);
+    EXPECT(tinkey_sealing_new(keys, "ad", (size_t)PTRDIFF_MAX + 1, &sealing) == TINKEY_BAD_CALL);
     EXPECT(tinkey_opening_new(NULL, "ad", 2, &opening) == TINKEY_BAD_CALL);
     EXPECT(tinkey_opening_new(keys, "ad", 2, NULL) == TINKEY_BAD_CALL);
     EXPECT(!sealing && tinkey_sealing_new(keys, "ad", 2, &sealing) == TINKEY_OK);
@@ -291,9 +345,14 @@ static void own(char *line) {
     EXPECT(tinkey_sealing_update(sealing, "a", 1, NULL, 200, &made) == TINKEY_BAD_CALL);
     EXPECT(tinkey_sealing_update(sealing, "a", 1, out, 200, NULL) == TINKEY_BAD_CALL);
     EXPECT(tinkey_sealing_update(sealing, out + 5, 1, out, 200, &made) == TINKEY_BAD_CALL);
+    EXPECT(tinkey_sealing_update(sealing, out + 199, 1, out, 200, &made) == TINKEY_BAD_CALL);
     EXPECT(tinkey_sealing_update(sealing, "a", 1, out, SIZE_MAX, &made) == TINKEY_BAD_CALL);
-    EXPECT(tinkey_sealing_update(sealing, "a", SIZE_MAX, out, 200, &made) == TINKEY_TOO_LONG);
+    EXPECT(tinkey_sealing_update(sealing, "a", 1, out, (size_t)PTRDIFF_MAX + 1, &made) == TINKEY_BAD_CALL);
+    EXPECT(tinkey_sealing_update(sealing, "a", SIZE_MAX, out, 200, &made) == TINKEY_BAD_CALL);
     EXPECT(tinkey_sealing_finish(sealing, NULL, 200, &made) == TINKEY_BAD_CALL);
+    EXPECT(tinkey_sealing_finish(sealing, out, SIZE_MAX, &made) == TINKEY_BAD_CALL);
+    EXPECT(tinkey_opening_update(opening, out + 199, 1, out, 200, &made) == TINKEY_BAD_CALL);
+    EXPECT(tinkey_opening_finish(opening, out, (size_t)PTRDIFF_MAX + 1, &made) == TINKEY_BAD_CALL);
     /* handles of others */
     EXPECT(tinkey_sealing_update((tinkey_sealing *)keys, "a", 1, out, 200, &made) == TINKEY_OTHER_PRIMITIVE);
     EXPECT(tinkey_sealing_finish((tinkey_sealing *)opening, out, 200, &made) == TINKEY_OTHER_PRIMITIVE);
@@ -301,7 +360,9 @@ static void own(char *line) {
     EXPECT(tinkey_aead_seal((tinkey_aead *)keys, "a", 1, "b", 1, out, 200, &made) == TINKEY_OTHER_PRIMITIVE);
     EXPECT(tinkey_sealing_new((tinkey_streaming *)sealing, "ad", 2, &sealing) == TINKEY_OTHER_PRIMITIVE);
     EXPECT(tinkey_sealing_waiting(NULL) == 0 && tinkey_opening_waiting((tinkey_opening *)sealing) == 0);
+    EXPECT(tinkey_sealing_update((tinkey_sealing *)keys, out, 1, out, 200, &made) == TINKEY_BAD_CALL);
     EXPECT(is_filled(out, sizeof out) && made == 7 && errno == 77);
+    waits(keys, stream, plain);
     /* two streams of one plaintext aren't one */
     struct stream first = {sealing, NULL, 0}, second = {NULL, NULL, 0}, back = {NULL, opening, 0};
     struct bytes text = {(unsigned char *)"attack at dawn", 14}, other = {NULL, 0};
@@ -328,6 +389,8 @@ static void own(char *line) {
     tinkey_opening_free(NULL);
     tinkey_streaming_free(NULL);
     free(keyset.at);
+    free(stream.at);
+    free(plain.at);
     free(sealed.at);
     free(opened.at);
     free(other.at);
@@ -359,6 +422,7 @@ static void memory(char *line) {
             EXPECT(status == (was_refused ? TINKEY_NO_MEMORY : TINKEY_OK));
             if (was_refused) {
                 EXPECT(is_filled(out, sizeof out) && made == 7);
+                if (has_begun) EXPECT(waiting(&of) == 0);
                 if (has_begun) EXPECT(call(&of, 0, "more", 4, out, sizeof out, &made) == TINKEY_ENDED);
                 if (has_begun) EXPECT(call(&of, 1, NULL, 0, out, sizeof out, &made) == TINKEY_ENDED);
             }

@@ -1,5 +1,6 @@
 /* Between a C program and the proved exports of libtinkey_c.a: random bytes are drawn here, calls of one handle are
- * kept one at a time, and what the exports take for granted is tested. No proof covers this file. */
+ * kept one at a time, what the exports take for granted is tested, and a stream that is over is remembered. No proof
+ * covers this file. */
 #define _GNU_SOURCE
 #include "tinkey.h"
 
@@ -116,6 +117,7 @@ enum kind { KEYS, STREAM_KEYS, SEALING, OPENING };
 
 struct handle {
     enum kind kind;
+    bool is_over; /* of a stream: no call gives any more of it */
     struct shared_keys keys;
     pthread_mutex_t one_call;
 };
@@ -146,8 +148,7 @@ static tinkey_status give(struct handle *made, int32_t status, void **out) {
 }
 
 static tinkey_status make(enum kind kind, maker *core, const void *text, size_t len, void **out) {
-    if (!out || is_missing(text, len)) return TINKEY_BAD_CALL;
-    if (is_huge(len)) return TINKEY_TOO_LONG;
+    if (!out || is_missing(text, len) || is_huge(len)) return TINKEY_BAD_CALL;
     if (!is_new_enough()) return TINKEY_OLD_PROCESSOR;
     int before = errno;
     struct handle *made = blank(kind);
@@ -160,9 +161,9 @@ static int is_form(tinkey_form form) { return form == TINKEY_JSON || form == TIN
 
 static tinkey_status unwrap(enum kind kind, unwrapper *core, const void *text, size_t len, tinkey_form form,
                             const void *master, size_t master_len, tinkey_form master_form, void **out) {
-    if (!out || is_missing(text, len) || is_missing(master, master_len) || !is_form(form) || !is_form(master_form))
+    if (!out || is_missing(text, len) || is_missing(master, master_len) || is_huge(len) || is_huge(master_len)
+        || !is_form(form) || !is_form(master_form))
         return TINKEY_BAD_CALL;
-    if (is_huge(len) || is_huge(master_len)) return TINKEY_TOO_LONG;
     if (!is_new_enough()) return TINKEY_OLD_PROCESSOR;
     int before = errno;
     struct handle *made = blank(kind);
@@ -184,42 +185,49 @@ static void let_go(struct handle *handle) {
 
 /* ---- Calls. */
 
-/* Two inputs, and an output in which at most `most` bytes are written. */
+/* Two inputs, and an output with the room that the caller says it has. The answer has at most `most` bytes, and no
+ * more room is lent than that, so that a room which is too long names no other memory. */
 struct call {
     const void *first, *second;
     size_t first_len, second_len;
     void *out;
-    size_t room;
+    size_t room, most;
     size_t *len;
+    bool ends; /* of a stream: the call ends its input */
 };
 
-static tinkey_status fault(const void *handle, const struct call *call) {
-    if (!handle || !call->len || is_missing(call->first, call->first_len)
-        || is_missing(call->second, call->second_len) || is_missing(call->out, call->room))
-        return TINKEY_BAD_CALL;
-    if (is_huge(call->first_len) || is_huge(call->second_len)) return TINKEY_TOO_LONG;
-    if (overlap(call->out, call->room, call->first, call->first_len)
+/* Whether the caller hands in what no call takes. Overlap is that of the whole room, however much of it is written. */
+static int is_bad(const void *handle, const struct call *call) {
+    return !handle || !call->len || is_missing(call->first, call->first_len)
+        || is_missing(call->second, call->second_len) || is_missing(call->out, call->room)
+        || is_huge(call->first_len) || is_huge(call->second_len) || is_huge(call->room)
+        || overlap(call->out, call->room, call->first, call->first_len)
         || overlap(call->out, call->room, call->second, call->second_len)
         || overlap(call->len, sizeof *call->len, call->out, call->room)
         || overlap(call->len, sizeof *call->len, call->first, call->first_len)
-        || overlap(call->len, sizeof *call->len, call->second, call->second_len))
-        return TINKEY_BAD_CALL;
-    return TINKEY_OK;
+        || overlap(call->len, sizeof *call->len, call->second, call->second_len);
+}
+
+/* Whether no call gives any more of a stream, after one with this status. */
+static int is_last(const struct call *call, int32_t status) {
+    return status == TINKEY_OK ? call->ends
+                               : status == TINKEY_REFUSED || status == TINKEY_TOO_LONG || status == TINKEY_NO_MEMORY;
 }
 
 typedef int32_t worker(struct shared_keys *, const uint8_t *, size_t, const uint8_t *, size_t,
                        uint8_t *, size_t, size_t *);
 
 static tinkey_status run(void *which, enum kind kind, worker *core, const struct call *call) {
-    tinkey_status bad = fault(which, call);
-    if (bad) return bad;
-    int before = errno;
+    if (is_bad(which, call)) return TINKEY_BAD_CALL;
     struct handle *handle = which;
     if (handle->kind != kind) return TINKEY_OTHER_PRIMITIVE;
+    int before = errno;
+    size_t room = least(call->room, call->most);
     pthread_mutex_lock(&handle->one_call);
     int32_t status = core(&handle->keys, at(call->first, call->first_len), call->first_len,
                           at(call->second, call->second_len), call->second_len,
-                          at(call->out, call->room), call->room, call->len);
+                          at(call->out, room), room, call->len);
+    if ((kind == SEALING || kind == OPENING) && is_last(call, status)) handle->is_over = true;
     pthread_mutex_unlock(&handle->one_call);
     errno = before;
     return (tinkey_status)status;
@@ -296,49 +304,46 @@ size_t tinkey_daead_seal_room(size_t plain_len) { return sum(plain_len, DAEAD_MO
 size_t tinkey_daead_open_room(size_t sealed_len) { return sealed_len; }
 size_t tinkey_mac_tag_room(void) { return TAG_MOST; }
 
-/* No call is lent more room than its answer can need, so that a length which is too long names no other memory. */
-
 tinkey_status tinkey_aead_seal(tinkey_aead *handle, const void *plain, size_t plain_len, const void *ad,
                                size_t ad_len, void *out, size_t out_room, size_t *out_len) {
-    struct call call = {plain, ad, plain_len, ad_len, out, least(out_room, tinkey_aead_seal_room(plain_len)), out_len};
+    struct call call = {plain, ad, plain_len, ad_len, out, out_room, tinkey_aead_seal_room(plain_len), out_len, false};
     return run(handle, KEYS, seal_freshly, &call);
 }
 
 tinkey_status tinkey_aead_open(tinkey_aead *handle, const void *sealed, size_t sealed_len, const void *ad,
                                size_t ad_len, void *out, size_t out_room, size_t *out_len) {
-    struct call call = {sealed, ad, sealed_len, ad_len, out, least(out_room, sealed_len), out_len};
+    struct call call = {sealed, ad, sealed_len, ad_len, out, out_room, sealed_len, out_len, false};
     return run(handle, KEYS, tinkey_core_open, &call);
 }
 
 tinkey_status tinkey_daead_seal(tinkey_daead *handle, const void *plain, size_t plain_len, const void *ad,
                                 size_t ad_len, void *out, size_t out_room, size_t *out_len) {
-    struct call call = {plain, ad, plain_len, ad_len, out, least(out_room, tinkey_daead_seal_room(plain_len)), out_len};
+    struct call call = {plain, ad, plain_len, ad_len, out, out_room, tinkey_daead_seal_room(plain_len), out_len, false};
     return run(handle, KEYS, tinkey_core_dseal, &call);
 }
 
 tinkey_status tinkey_daead_open(tinkey_daead *handle, const void *sealed, size_t sealed_len, const void *ad,
                                 size_t ad_len, void *out, size_t out_room, size_t *out_len) {
-    struct call call = {sealed, ad, sealed_len, ad_len, out, least(out_room, sealed_len), out_len};
+    struct call call = {sealed, ad, sealed_len, ad_len, out, out_room, sealed_len, out_len, false};
     return run(handle, KEYS, tinkey_core_dopen, &call);
 }
 
 tinkey_status tinkey_mac_tag(tinkey_mac *handle, const void *body, size_t body_len, void *out, size_t out_room,
                              size_t *out_len) {
-    struct call call = {body, NULL, body_len, 0, out, least(out_room, TAG_MOST), out_len};
+    struct call call = {body, NULL, body_len, 0, out, out_room, TAG_MOST, out_len, false};
     return run(handle, KEYS, tag_alone, &call);
 }
 
 tinkey_status tinkey_mac_verify(tinkey_mac *handle, const void *tag, size_t tag_len, const void *body,
                                 size_t body_len) {
     size_t unused = 0;
-    struct call call = {tag, body, tag_len, body_len, NULL, 0, &unused};
+    struct call call = {tag, body, tag_len, body_len, NULL, 0, 0, &unused, false};
     return run(handle, KEYS, verify_both, &call);
 }
 
 tinkey_status tinkey_prf_derive(tinkey_prf *handle, const void *input, size_t input_len, void *out, size_t count) {
     size_t made = 0;
-    if (is_huge(count)) return handle ? TINKEY_TOO_LONG : TINKEY_BAD_CALL;
-    struct call call = {input, NULL, input_len, 0, out, count, &made};
+    struct call call = {input, NULL, input_len, 0, out, count, count, &made, false};
     return run(handle, KEYS, derive_all, &call);
 }
 
@@ -348,8 +353,7 @@ typedef int32_t beginner(struct shared_keys *, const uint8_t *ad, size_t, struct
 
 /* A stream begun under keys, whose calls are kept one at a time meanwhile. */
 static tinkey_status begin(void *keys, enum kind kind, beginner *core, const void *ad, size_t ad_len, void **out) {
-    if (!keys || !out || is_missing(ad, ad_len)) return TINKEY_BAD_CALL;
-    if (is_huge(ad_len)) return TINKEY_TOO_LONG;
+    if (!keys || !out || is_missing(ad, ad_len) || is_huge(ad_len)) return TINKEY_BAD_CALL;
     struct handle *of = keys;
     if (of->kind != STREAM_KEYS) return TINKEY_OTHER_PRIMITIVE;
     int before = errno;
@@ -406,21 +410,21 @@ void tinkey_opening_free(tinkey_opening *handle) { let_go((struct handle *)handl
     }                                                                                                               \
     tinkey_status tinkey_##work##_update(tinkey_##work *handle, const void *bytes, size_t len, void *out,           \
                                          size_t out_room, size_t *out_len) {                                        \
-        struct call call = {bytes, NULL, len, 0, out, out_room, out_len};                                           \
-        return is_huge(out_room) ? TINKEY_BAD_CALL : run(handle, kind, work##_more, &call);                         \
+        struct call call = {bytes, NULL, len, 0, out, out_room, out_room, out_len, false};                          \
+        return run(handle, kind, work##_more, &call);                                                               \
     }                                                                                                               \
     tinkey_status tinkey_##work##_finish(tinkey_##work *handle, void *out, size_t out_room, size_t *out_len) {      \
-        struct call call = {NULL, NULL, 0, 0, out, out_room, out_len};                                              \
-        return is_huge(out_room) ? TINKEY_BAD_CALL : run(handle, kind, work##_end, &call);                          \
+        struct call call = {NULL, NULL, 0, 0, out, out_room, out_room, out_len, true};                              \
+        return run(handle, kind, work##_end, &call);                                                                \
     }                                                                                                               \
     size_t tinkey_##work##_waiting(tinkey_##work *handle) { return waiting((struct handle *)handle, kind); }
 
-/* How many bytes of a stream are kept for want of room. */
+/* How many bytes of a stream are kept for want of room: none once it is over, when no call gives them any more. */
 static size_t waiting(struct handle *handle, enum kind kind) {
     if (!handle || handle->kind != kind) return 0;
     int before = errno;
     pthread_mutex_lock(&handle->one_call);
-    size_t count = tinkey_core_stream_waiting(&handle->keys);
+    size_t count = handle->is_over ? 0 : tinkey_core_stream_waiting(&handle->keys);
     pthread_mutex_unlock(&handle->one_call);
     errno = before;
     return count;
@@ -439,9 +443,10 @@ struct pass {
     size_t room;
 };
 
-/* One step of a stream. Where the room is too small, the bytes were taken, and what is kept is asked for again. */
+/* One step of a stream, the last one with no bytes. Where the room is too small, the bytes were taken, and what is kept
+ * is asked for again. */
 static tinkey_status step(struct pass *pass, struct handle *stream, worker *core, size_t len, size_t *made) {
-    struct call call = {pass->piece, NULL, len, 0, pass->out, pass->room, made};
+    struct call call = {pass->piece, NULL, len, 0, pass->out, pass->room, pass->room, made, !len};
     tinkey_status status = run(stream, stream->kind, core, &call);
     if (status != TINKEY_NO_ROOM) return status;
     size_t room = waiting(stream, stream->kind);
@@ -449,7 +454,7 @@ static tinkey_status step(struct pass *pass, struct handle *stream, worker *core
     if (!larger) return TINKEY_NO_MEMORY;
     pass->out = larger;
     pass->room = room;
-    call = (struct call){NULL, NULL, 0, 0, larger, room, made};
+    call = (struct call){NULL, NULL, 0, 0, larger, room, room, made, !len};
     return run(stream, stream->kind, core, &call);
 }
 
@@ -497,21 +502,25 @@ tinkey_status tinkey_stream_open(tinkey_streaming *keys, const void *ad, size_t 
 const char *tinkey_status_text(tinkey_status status) {
     switch (status) {
     case TINKEY_OK: return "done";
-    case TINKEY_REFUSED: return "nothing opens these bytes, or the tag isn't the body's";
-    case TINKEY_NO_KEYSET: return "the text, or what was opened of an encrypted one, is no keyset";
-    case TINKEY_UNFIT_KEY: return "a key of the keyset can't serve for the primitive";
-    case TINKEY_OTHER_PRIMITIVE: return "the handle is one of another primitive";
-    case TINKEY_NO_ROOM: return "the output is shorter than the answer";
-    case TINKEY_TOO_LONG: return "too many bytes";
+    case TINKEY_REFUSED:
+        return "no key opens the bytes with this associated data, the tag isn't the body's, or the stream isn't whole";
+    case TINKEY_NO_KEYSET: return "the text isn't a keyset in this form, or what was encrypted isn't a keyset";
+    case TINKEY_UNFIT_KEY: return "an ENABLED key of the keyset can't serve for the primitive";
+    case TINKEY_OTHER_PRIMITIVE: return "the handle is for another primitive";
+    case TINKEY_NO_ROOM: return "the output is shorter than the answer; a stream keeps the answer";
+    case TINKEY_TOO_LONG:
+        return "an input of a call has more than 2^30 bytes, an encrypted keyset more than 4,194,304 or its master "
+               "more than 1,048,576, the key derives fewer bytes, or a stream has more than 2^32 segments";
     case TINKEY_NO_RANDOM: return "the system gives no random bytes";
-    case TINKEY_NO_MEMORY: return "out of memory";
-    case TINKEY_BAD_CALL: return "a null pointer, an unknown form, or an output that overlaps something else";
+    case TINKEY_NO_MEMORY: return "memory was refused";
+    case TINKEY_BAD_CALL:
+        return "a null pointer, a length over PTRDIFF_MAX, an unknown form, or an output that overlaps something else";
     case TINKEY_OLD_PROCESSOR: return "the processor lacks what the library is built for";
-    case TINKEY_NO_MASTER: return "the text of the master is no keyset";
-    case TINKEY_UNFIT_MASTER: return "a key of the master can't serve as an AEAD";
-    case TINKEY_NO_WRAPPED: return "the text is no encrypted keyset";
+    case TINKEY_NO_MASTER: return "the text of the master isn't a keyset in this form";
+    case TINKEY_UNFIT_MASTER: return "an ENABLED key of the master can't serve as an AEAD";
+    case TINKEY_NO_WRAPPED: return "the text isn't an encrypted keyset in this form";
     case TINKEY_ENDED: return "the stream has ended, or a call of it has failed";
-    case TINKEY_CALLBACK: return "reading or writing failed";
+    case TINKEY_CALLBACK: return "a function of the program for reading or writing failed";
     }
     return "no such status";
 }

@@ -35,7 +35,7 @@ func Example() {
 	fmt.Println(errors.Is(err, tinkey.ErrRefused), err)
 	// Output:
 	// 47 bytes, which open to "attack at dawn"
-	// true tinkey: nothing opens these bytes, or the tag isn't the body's
+	// true tinkey: no key opens the bytes with this associated data, the tag isn't the body's, or the stream isn't whole
 }
 
 // A stream is sealed as it is written, and opened as it is read.
@@ -80,7 +80,7 @@ func ExampleStreaming() {
 	// Output:
 	// 54 bytes
 	// "attack at dawn", <nil>
-	// tinkey: nothing opens these bytes, or the tag isn't the body's
+	// tinkey: no key opens the bytes with this associated data, the tag isn't the body's, or the stream isn't whole
 }
 
 // A service takes up a new keyset while others call: the old handle is freed after the last call on it.

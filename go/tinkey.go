@@ -133,21 +133,37 @@ type Error int
 // The statuses. [ErrOtherPrimitive], [ErrNoRoom], [ErrBadCall], [ErrEnded] and [ErrCallback] can't come from the calls of
 // this package, except for a [Form] that isn't one: a stream that has failed goes on to return its first error.
 const (
-	ErrRefused        Error = C.TINKEY_REFUSED         // nothing opens the bytes or the encrypted keyset, the tag isn't the body's, or the bytes are no whole stream
-	ErrNoKeyset       Error = C.TINKEY_NO_KEYSET       // the text, or what was encrypted, isn't a keyset in that form
-	ErrUnfitKey       Error = C.TINKEY_UNFIT_KEY       // an ENABLED key of the keyset can't serve for the primitive
-	ErrOtherPrimitive Error = C.TINKEY_OTHER_PRIMITIVE // the handle is for another primitive
-	ErrNoRoom         Error = C.TINKEY_NO_ROOM         // the output is shorter than the answer
-	ErrTooLong        Error = C.TINKEY_TOO_LONG        // an input, a text or a stream is too long, or the key derives fewer bytes
-	ErrNoRandom       Error = C.TINKEY_NO_RANDOM       // the system gives no random bytes
-	ErrNoMemory       Error = C.TINKEY_NO_MEMORY       // memory was refused
-	ErrBadCall        Error = C.TINKEY_BAD_CALL        // a null pointer, an unknown form, or an output that overlaps something
-	ErrOldProcessor   Error = C.TINKEY_OLD_PROCESSOR   // the processor lacks what the library is built for
-	ErrNoMaster       Error = C.TINKEY_NO_MASTER       // the text of the master isn't a keyset in that form
-	ErrUnfitMaster    Error = C.TINKEY_UNFIT_MASTER    // an ENABLED key of the master can't serve as an AEAD
-	ErrNoWrapped      Error = C.TINKEY_NO_WRAPPED      // the text isn't an encrypted keyset in that form
-	ErrEnded          Error = C.TINKEY_ENDED           // a stream has ended
-	ErrCallback       Error = C.TINKEY_CALLBACK        // a function for reading or writing failed
+	// No key opens the bytes with this associated data, the tag isn't the body's, or the stream isn't whole.
+	ErrRefused Error = C.TINKEY_REFUSED
+	// The text isn't a keyset in this form, or what was encrypted isn't a keyset.
+	ErrNoKeyset Error = C.TINKEY_NO_KEYSET
+	// An ENABLED key of the keyset can't serve for the primitive.
+	ErrUnfitKey Error = C.TINKEY_UNFIT_KEY
+	// The handle is for another primitive.
+	ErrOtherPrimitive Error = C.TINKEY_OTHER_PRIMITIVE
+	// The output is shorter than the answer; a stream keeps the answer.
+	ErrNoRoom Error = C.TINKEY_NO_ROOM
+	// An input of a call has more than 2^30 bytes, an encrypted keyset more than 4,194,304 or its master more than
+	// 1,048,576, the key derives fewer bytes, or a stream has more than 2^32 segments.
+	ErrTooLong Error = C.TINKEY_TOO_LONG
+	// The system gives no random bytes.
+	ErrNoRandom Error = C.TINKEY_NO_RANDOM
+	// Memory was refused.
+	ErrNoMemory Error = C.TINKEY_NO_MEMORY
+	// A null pointer, a length over PTRDIFF_MAX, an unknown form, or an output that overlaps something else.
+	ErrBadCall Error = C.TINKEY_BAD_CALL
+	// The processor lacks what the library is built for.
+	ErrOldProcessor Error = C.TINKEY_OLD_PROCESSOR
+	// The text of the master isn't a keyset in this form.
+	ErrNoMaster Error = C.TINKEY_NO_MASTER
+	// An ENABLED key of the master can't serve as an AEAD.
+	ErrUnfitMaster Error = C.TINKEY_UNFIT_MASTER
+	// The text isn't an encrypted keyset in this form.
+	ErrNoWrapped Error = C.TINKEY_NO_WRAPPED
+	// The stream has ended, or a call of it has failed.
+	ErrEnded Error = C.TINKEY_ENDED
+	// A function of the program for reading or writing failed.
+	ErrCallback Error = C.TINKEY_CALLBACK
 )
 
 // ErrClosed is the error of a call on a handle, a writer or a reader that is closed.
@@ -265,7 +281,8 @@ func NewAead(json []byte) (*Aead, error) { return aead(ofText(C.AEAD, json, JSON
 // NewAeadBinary returns the handle of a keyset in the binary form.
 func NewAeadBinary(data []byte) (*Aead, error) { return aead(ofText(C.AEAD, data, Binary)) }
 
-// NewAeadWrapped returns the handle of a keyset that is encrypted under a master keyset.
+// NewAeadWrapped returns the handle of a keyset that is encrypted under a master keyset. It returns
+// [ErrRefused] if no key of the master opens it, and also of a keyset in clear.
 func NewAeadWrapped(encrypted []byte, form Form, master []byte, masterForm Form) (*Aead, error) {
 	return aead(ofWrapped(C.AEAD, encrypted, form, master, masterForm))
 }
@@ -296,7 +313,8 @@ func NewDaead(json []byte) (*Daead, error) { return daead(ofText(C.DAEAD, json, 
 // NewDaeadBinary returns the handle of a keyset in the binary form.
 func NewDaeadBinary(data []byte) (*Daead, error) { return daead(ofText(C.DAEAD, data, Binary)) }
 
-// NewDaeadWrapped returns the handle of a keyset that is encrypted under a master keyset.
+// NewDaeadWrapped returns the handle of a keyset that is encrypted under a master keyset. It returns
+// [ErrRefused] if no key of the master opens it, and also of a keyset in clear.
 func NewDaeadWrapped(encrypted []byte, form Form, master []byte, masterForm Form) (*Daead, error) {
 	return daead(ofWrapped(C.DAEAD, encrypted, form, master, masterForm))
 }
@@ -327,7 +345,8 @@ func NewMac(json []byte) (*Mac, error) { return mac(ofText(C.MAC, json, JSON)) }
 // NewMacBinary returns the handle of a keyset in the binary form.
 func NewMacBinary(data []byte) (*Mac, error) { return mac(ofText(C.MAC, data, Binary)) }
 
-// NewMacWrapped returns the handle of a keyset that is encrypted under a master keyset.
+// NewMacWrapped returns the handle of a keyset that is encrypted under a master keyset. It returns
+// [ErrRefused] if no key of the master opens it, and also of a keyset in clear.
 func NewMacWrapped(encrypted []byte, form Form, master []byte, masterForm Form) (*Mac, error) {
 	return mac(ofWrapped(C.MAC, encrypted, form, master, masterForm))
 }
@@ -359,7 +378,8 @@ func NewPrf(json []byte) (*Prf, error) { return prf(ofText(C.PRF, json, JSON)) }
 // NewPrfBinary returns the handle of a keyset in the binary form.
 func NewPrfBinary(data []byte) (*Prf, error) { return prf(ofText(C.PRF, data, Binary)) }
 
-// NewPrfWrapped returns the handle of a keyset that is encrypted under a master keyset.
+// NewPrfWrapped returns the handle of a keyset that is encrypted under a master keyset. It returns
+// [ErrRefused] if no key of the master opens it, and also of a keyset in clear.
 func NewPrfWrapped(encrypted []byte, form Form, master []byte, masterForm Form) (*Prf, error) {
 	return prf(ofWrapped(C.PRF, encrypted, form, master, masterForm))
 }
@@ -387,7 +407,8 @@ func NewStreamingBinary(data []byte) (*Streaming, error) {
 	return streaming(ofText(C.STREAMING, data, Binary))
 }
 
-// NewStreamingWrapped returns the handle of a keyset that is encrypted under a master keyset.
+// NewStreamingWrapped returns the handle of a keyset that is encrypted under a master keyset. It returns
+// [ErrRefused] if no key of the master opens it, and also of a keyset in clear.
 func NewStreamingWrapped(encrypted []byte, form Form, master []byte, masterForm Form) (*Streaming, error) {
 	return streaming(ofWrapped(C.STREAMING, encrypted, form, master, masterForm))
 }

@@ -9,15 +9,17 @@
 What is proved of the library, and what isn't, is told at the head of its header, tinkey.h. This module is tested alone.
 
 The library is looked for under the name in the environment variable TINKEY_LIBRARY, or else as libtinkey.so.0 where the
-system finds libraries. A handle may be used and closed from any thread. The forked child of a process with threads
-makes its own handles.
+system finds libraries. A handle may be used and closed from any thread, and can't be copied or pickled. The forked
+child of a process with threads makes its own handles.
 """
 import ctypes
+import errno
 import os
 import threading
 from typing import Any, BinaryIO, Optional, Sequence, Type, TypeVar, Union
 
 Buffer = Union[bytes, bytearray, memoryview]
+Text = Union[str, Buffer]
 Own = TypeVar("Own", bound="_Owned")
 Self = TypeVar("Self", bound="_Handle")
 
@@ -37,13 +39,13 @@ class TinkeyError(Exception):
 
 
 class Refused(TinkeyError):
-    """Nothing opens the bytes, no key of the master opens the encrypted keyset, or the tag isn't the body's."""
+    """No key opens the bytes with this associated data, the tag isn't the body's, or the stream isn't whole."""
 
     status = 1
 
 
 class NoKeyset(TinkeyError):
-    """The text is no keyset of that form, or what was encrypted is no keyset."""
+    """The text isn't a keyset in this form, or what was encrypted isn't a keyset."""
 
     status = 2
 
@@ -55,19 +57,20 @@ class UnfitKey(TinkeyError):
 
 
 class OtherPrimitive(TinkeyError):
-    """The handle is one of another primitive."""
+    """The handle is for another primitive."""
 
     status = 4
 
 
 class NoRoom(TinkeyError):
-    """The output is shorter than the answer."""
+    """The output is shorter than the answer; a stream keeps the answer."""
 
     status = 5
 
 
 class TooLong(TinkeyError):
-    """An input or a text has too many bytes, or the key derives fewer bytes than were asked for."""
+    """An input of a call has more than 2^30 bytes, an encrypted keyset more than 4,194,304 or its master more than
+    1,048,576, the key derives fewer bytes, or a stream has more than 2^32 segments."""
 
     status = 6
 
@@ -85,7 +88,7 @@ class NoMemory(TinkeyError):
 
 
 class BadCall(TinkeyError):
-    """A null pointer, an unknown form, or an output that overlaps something else."""
+    """A null pointer, a length over PTRDIFF_MAX, an unknown form, or an output that overlaps something else."""
 
     status = 9
 
@@ -97,7 +100,7 @@ class OldProcessor(TinkeyError):
 
 
 class NoMaster(TinkeyError):
-    """The text of the master is no keyset of that form."""
+    """The text of the master isn't a keyset in this form."""
 
     status = 11
 
@@ -109,7 +112,7 @@ class UnfitMaster(TinkeyError):
 
 
 class NoWrapped(TinkeyError):
-    """The text is no encrypted keyset of that form."""
+    """The text isn't an encrypted keyset in this form."""
 
     status = 13
 
@@ -121,7 +124,7 @@ class Ended(TinkeyError):
 
 
 class Callback(TinkeyError):
-    """The caller's own function for reading or writing failed."""
+    """A function of the program for reading or writing failed."""
 
     status = 15
 
@@ -139,13 +142,19 @@ def _bytes(data: Buffer) -> bytes:
     return data if isinstance(data, bytes) else bytes(memoryview(data))
 
 
+def _json(text: Text) -> bytes:
+    """The bytes of a JSON text. A lone surrogate of a `str` stays one, so that the library refuses the text."""
+    return text.encode("utf-8", "surrogatepass") if isinstance(text, str) else _bytes(text)
+
+
 def _function(name: str, *arguments: Any, gives: Any = ctypes.c_int) -> Any:
     function = getattr(_library, name)
     function.restype, function.argtypes = gives, list(arguments)
     return function
 
 
-_FORMS = {"json": 0, "binary": 1}
+# The number of each form of a text, and what gives the text's bytes.
+_FORMS = {"json": (0, _json), "binary": (1, _bytes)}
 _INPUT = (ctypes.c_char_p, _size)
 _TEXT = (ctypes.c_char_p, _size, ctypes.c_int)
 _OUTPUT = (ctypes.c_char_p, _size, ctypes.POINTER(_size))
@@ -180,6 +189,10 @@ class _Owned:
             if at:
                 _function(f"tinkey_{self._name}_free", _pointer, gives=None)(at)
 
+    def __reduce_ex__(self, protocol: Any) -> Any:
+        """Refuses `copy`, `deepcopy` and `pickle`: a second object would free what the first one holds."""
+        raise TypeError(f"{type(self).__name__} objects can't be copied or pickled")
+
     def __enter__(self: Own) -> Own:
         return self
 
@@ -208,9 +221,9 @@ class _Handle(_Owned):
         self._out, self._room = ctypes.create_string_buffer(_SHORT), _size(_SHORT)
 
     @classmethod
-    def from_json(cls: Type[Self], text: Buffer) -> Self:
+    def from_json(cls: Type[Self], text: Text) -> Self:
         """The handle of a keyset in Tink's JSON."""
-        data = _bytes(text)
+        data = _json(text)
         return cls("new", _INPUT, (data, len(data)))
 
     @classmethod
@@ -220,12 +233,18 @@ class _Handle(_Owned):
         return cls("new_binary", _INPUT, (data, len(data)))
 
     @classmethod
-    def from_encrypted(cls: Type[Self], encrypted: Buffer, master: Buffer, form: str = "json",
+    def from_encrypted(cls: Type[Self], encrypted: Text, master: Text, form: str = "json",
                        master_form: str = "json") -> Self:
-        """The handle of a keyset that is encrypted under a master keyset. A form is `json` or `binary`."""
-        text, key = _bytes(encrypted), _bytes(master)
-        return cls("new_wrapped", _TEXT + _TEXT,
-                   (text, len(text), _FORMS[form], key, len(key), _FORMS[master_form]))
+        """The handle of a keyset that is encrypted under a master keyset.
+
+        A form is `json`, in which a text may be a `str`, or `binary`; another one raises `BadCall`. If no key of the
+        master opens it, as where it is a keyset in clear, it raises `Refused`.
+        """
+        if form not in _FORMS or master_form not in _FORMS:
+            raise BadCall()
+        (number, bytes_of), (master_number, master_bytes_of) = _FORMS[form], _FORMS[master_form]
+        text, key = bytes_of(encrypted), master_bytes_of(master)
+        return cls("new_wrapped", _TEXT + _TEXT, (text, len(text), number, key, len(key), master_number))
 
     def _made(self, function: Any, room: int, first: bytes, second: Optional[bytes] = None) -> bytes:
         """What a function writes from one input or two into an output with that room, or with more."""
@@ -351,7 +370,10 @@ class _Stream(_Owned):
         return out[:size.value]
 
     def update(self, data: Buffer) -> bytes:
-        """Takes the next bytes, any number of them, and gives what they settle, which may be nothing."""
+        """Takes the next bytes, any number of them, and gives what they settle, which may be nothing.
+
+        A segment is given once a byte follows it, and the last one by `finish` alone.
+        """
         given = _bytes(data)
         return self._call(self._given, self._update, given, (b"", 0), given, len(given))
 
@@ -382,18 +404,33 @@ class Opening(_Stream):
     _waiting = staticmethod(_opening_waiting)
 
 
+def _read(source: BinaryIO) -> bytes:
+    """The next bytes of a file, none at its end. A raw file that doesn't wait for them gives None."""
+    piece = source.read(_PIECE)
+    if piece is None:
+        raise BlockingIOError(errno.EAGAIN, "the source has no bytes yet, and doesn't wait for them")
+    return _bytes(piece)
+
+
 def _write_all(destination: BinaryIO, data: bytes) -> None:
-    """Writes bytes to a file that may take only some of them at once."""
+    """Writes bytes to a file. A raw one may take only some of them at once, or None if it doesn't wait for room."""
     left = memoryview(data)
     while left:
         count = destination.write(left)
-        left = left[len(left) if count is None else count:]
+        if count is None:
+            raise BlockingIOError(errno.EAGAIN, "the destination has no room yet, and doesn't wait for it")
+        if not 0 < count <= len(left):
+            raise OSError(f"the destination took {count} of {len(left)} bytes")
+        left = left[count:]
 
 
 def _pass(stream: _Stream, source: BinaryIO, destination: BinaryIO) -> None:
+    """Takes what a file has left through a stream, all of it, or raises what went wrong."""
     with stream:
-        for piece in iter(lambda: source.read(_PIECE), b""):
+        piece = _read(source)
+        while piece:
             _write_all(destination, stream.update(piece))
+            piece = _read(source)
         _write_all(destination, stream.finish())
 
 
@@ -413,12 +450,17 @@ class Streaming(_Handle):
         return self._call(lambda at: Opening("new", (_pointer, *_INPUT), (at, data, len(data))))
 
     def encrypt_file(self, source: BinaryIO, destination: BinaryIO, associated_data: Buffer = b"") -> None:
-        """Seals what one binary file has left, and writes the stream to another."""
+        """Seals what one binary file has left, and writes the stream to another.
+
+        The files may be unbuffered. One that would have to wait, but doesn't, raises `BlockingIOError`. Whatever is
+        raised, what was written by then is to be thrown away.
+        """
         _pass(self.sealing(associated_data), source, destination)
 
     def decrypt_file(self, source: BinaryIO, destination: BinaryIO, associated_data: Buffer = b"") -> None:
         """Opens the stream that one binary file has left, and writes its plaintext to another.
 
-        Where it raises `Refused`, what was written by then is only a part, and to be thrown away.
+        The files may be unbuffered. One that would have to wait, but doesn't, raises `BlockingIOError`. Whatever is
+        raised, such as `Refused`, what was written by then is only a part, and to be thrown away.
         """
         _pass(self.opening(associated_data), source, destination)

@@ -81,36 +81,38 @@ macro_rules! errors {
 }
 
 errors! {
-    /// Nothing opens the bytes, no key of the master opens the encrypted keyset, the tag isn't the body's, or the bytes are
-    /// no whole stream.
+    /// No key opens the bytes with this associated data, the tag isn't the body's, or the stream isn't whole.
     Refused = 1,
-    /// The text isn't a keyset in that form, or what was encrypted isn't a keyset.
+    /// The text isn't a keyset in this form, or what was encrypted isn't a keyset.
     NoKeyset = 2,
     /// An ENABLED key of the keyset can't serve for the primitive.
     UnfitKey = 3,
-    /// The handle is for another primitive, which no call of this crate can report.
+    /// The handle is for another primitive. No call of this crate can report it.
     OtherPrimitive = 4,
-    /// The output is shorter than the answer, which no call of this crate can report.
+    /// The output is shorter than the answer; a stream keeps the answer. No call of this crate can report it.
     NoRoom = 5,
-    /// An input, a text or a stream is too long, or the key derives fewer bytes than were asked for.
+    /// An input of a call has more than 2^30 bytes, an encrypted keyset more than 4,194,304 or its master more than
+    /// 1,048,576, the key derives fewer bytes, or a stream has more than 2^32 segments.
     TooLong = 6,
     /// The system gives no random bytes.
     NoRandom = 7,
     /// Memory was refused.
     NoMemory = 8,
-    /// A null pointer, an unknown form or an overlap, which no call of this crate can report.
+    /// A null pointer, a length over PTRDIFF_MAX, an unknown form, or an output that overlaps something else. No call
+    /// of this crate can report it.
     BadCall = 9,
     /// The processor lacks what the library is built for.
     OldProcessor = 10,
-    /// The text of the master isn't a keyset in that form.
+    /// The text of the master isn't a keyset in this form.
     NoMaster = 11,
     /// An ENABLED key of the master can't serve as an AEAD.
     UnfitMaster = 12,
-    /// The text isn't an encrypted keyset in that form.
+    /// The text isn't an encrypted keyset in this form.
     NoWrapped = 13,
-    /// A stream has ended, which no call of this crate can report: its first error comes again.
+    /// The stream has ended, or a call of it has failed. No call of this crate can report it: the first error of a
+    /// stream comes again.
     Ended = 14,
-    /// A function for reading or writing failed, which no call of this crate can report.
+    /// A function of the program for reading or writing failed. No call of this crate can report it.
     Callback = 15,
 }
 
@@ -210,7 +212,8 @@ macro_rules! handles {
                 Self::of_text($new_binary, bytes)
             }
 
-            /// The handle of a keyset that is encrypted under a master keyset.
+            /// The handle of a keyset that is encrypted under a master keyset, or [`Error::Refused`] if no key of the
+            /// master opens it, and also of a keyset in clear.
             pub fn from_encrypted(
                 encrypted: &[u8],
                 form: Form,

@@ -1,0 +1,271 @@
+"""Tests of the module by itself: its handles, its forms of keysets, and its streams over files of every kind.
+
+    TINKEY_LIBRARY=lib/libtinkey.so.0 PYTHONPATH=python python3 -m unittest test_tinkey
+
+tools/library runs them, and compares the module with outside values besides."""
+import base64
+import copy
+import errno
+import io
+import json
+import os
+import pickle
+import re
+import tempfile
+import unittest
+
+import tinkey
+
+TOP = os.path.dirname(os.path.dirname(os.path.abspath(__file__)))
+# The URL of a type of keys without its last word.
+GOOGLE = "type.googleapis.com/google.crypto.tink."
+# Messages of keys of zeros: for HMAC with SHA-256 and tags of 16 bytes, for HKDF with SHA-256, and for streams by
+# AES-GCM-HKDF with SHA-256 and segments of a mebibyte.
+KEYS = {
+    "AesGcmKey": b"\x1a\x10" + bytes(16),
+    "AesSivKey": b"\x12\x40" + bytes(64),
+    "HmacKey": b"\x12\x04\x08\x03\x10\x10\x1a\x20" + bytes(32),
+    "HkdfPrfKey": b"\x12\x02\x08\x03\x1a\x20" + bytes(32),
+    "AesGcmHkdfStreamingKey": b"\x12\x08\x08\x80\x80\x40\x10\x10\x18\x03\x1a\x10" + bytes(16),
+}
+
+
+def read(name):
+    """The text of a file of the repository."""
+    with open(f"{TOP}/{name}", encoding="utf-8") as file:
+        return file.read()
+
+
+def key(kind, number=7, status="ENABLED"):
+    """A key of that kind, as JSON has it."""
+    prefix = "TINK" if kind in ("AesGcmKey", "AesSivKey", "HmacKey") else "RAW"
+    value = base64.b64encode(KEYS[kind]).decode()
+    data = {"typeUrl": GOOGLE + kind, "value": value, "keyMaterialType": "SYMMETRIC"}
+    return {"keyData": data, "status": status, "keyId": number, "outputPrefixType": prefix}
+
+
+def keyset(*keys):
+    """The JSON of a keyset whose primary is the first of these keys."""
+    return json.dumps({"primaryKeyId": keys[0]["keyId"], "key": keys})
+
+
+class Handles(unittest.TestCase):
+    """What a handle is made of, and that there is one of it."""
+
+    def each(self):
+        """A handle of each type, and a stream of each."""
+        streaming = tinkey.Streaming.from_json(keyset(key("AesGcmHkdfStreamingKey")))
+        return [tinkey.Aead.from_json(keyset(key("AesGcmKey"))),
+                tinkey.DeterministicAead.from_json(keyset(key("AesSivKey"))),
+                tinkey.Mac.from_json(keyset(key("HmacKey"))), tinkey.Prf.from_json(keyset(key("HkdfPrfKey"))),
+                streaming, streaming.sealing(), streaming.opening()]
+
+    def test_nothing_is_copied_or_pickled(self):
+        for one in self.each():
+            ways = [lambda: copy.copy(one), lambda: copy.deepcopy(one), lambda: copy.deepcopy([one])]
+            ways += [lambda it=it: pickle.dumps(one, it) for it in range(pickle.HIGHEST_PROTOCOL + 1)]
+            for way in ways:
+                with self.assertRaises(TypeError) as told:
+                    way()
+                self.assertEqual(str(told.exception), f"{type(one).__name__} objects can't be copied or pickled")
+            one.close()
+            one.close()
+
+    def test_an_unknown_form_is_a_bad_call(self):
+        for forms in (("xml",), ("json", "JSON"), ("binary", ""), (None,), (0, 1)):
+            for text in (b"{}", "{}"):
+                with self.assertRaises(tinkey.BadCall):
+                    tinkey.Aead.from_encrypted(text, text, *forms)
+
+    def test_json_may_be_a_str_and_nothing_else_may(self):
+        text = keyset(key("AesGcmKey"))
+        for one in (text, text.encode(), bytearray(text.encode()), memoryview(text.encode())):
+            with tinkey.Aead.from_json(one) as keys:
+                self.assertEqual(keys.decrypt(keys.encrypt(b"text")), b"text")
+                for wrong in ("text", 5, None):
+                    with self.assertRaises(TypeError):
+                        keys.encrypt(wrong)
+                    with self.assertRaises(TypeError):
+                        keys.encrypt(b"text", wrong)
+        for call in (lambda: tinkey.Aead.from_binary(text), lambda: tinkey.Aead.from_json(5),
+                     lambda: tinkey.Aead.from_encrypted("", b"", "binary", "json"),
+                     lambda: tinkey.Aead.from_encrypted(b"", "", "json", "binary")):
+            self.assertRaises(TypeError, call)
+        for none in ("", "{}", "\u03b1\u03b2", "\ud800", "\0"):
+            self.assertRaises(tinkey.NoKeyset, tinkey.Aead.from_json, none)
+
+    def test_each_status_has_the_text_of_the_library(self):
+        kinds = tinkey.TinkeyError.__subclasses__()
+        self.assertEqual(sorted(it.status for it in kinds), list(range(1, 16)))
+        for kind in kinds:
+            text = " ".join(kind.__doc__.split())
+            self.assertEqual(text, f"{str(kind())[0].upper()}{str(kind())[1:]}.")
+
+    def test_every_enabled_key_has_to_serve(self):
+        for other in ("HmacKey", "AesSivKey", "HkdfPrfKey", "AesGcmHkdfStreamingKey"):
+            mixed = keyset(key("AesGcmKey"), key(other, 8))
+            for kind in (tinkey.Aead, tinkey.Mac, tinkey.DeterministicAead, tinkey.Prf, tinkey.Streaming):
+                self.assertRaises(tinkey.UnfitKey, kind.from_json, mixed)
+            for status in ("DISABLED", "DESTROYED"):
+                mixed = keyset(key("AesGcmKey"), key(other, 8, status))
+                with tinkey.Aead.from_json(mixed) as keys:
+                    self.assertEqual(keys.decrypt(keys.encrypt(b"text")), b"text")
+                self.assertRaises(tinkey.UnfitKey, tinkey.Mac.from_json, mixed)
+
+    def test_a_keyset_in_clear_is_no_encrypted_one(self):
+        text = keyset(key("AesGcmKey"))
+        self.assertRaises(tinkey.Refused, tinkey.Aead.from_encrypted, text, text)
+        self.assertRaises(tinkey.NoKeyset, tinkey.Aead.from_json, '{"encryptedKeyset": "AQID"}')
+
+
+class Raw(io.RawIOBase):
+    """A file without a buffer, which gives or takes at most so many bytes at once, and at some calls says otherwise."""
+
+    def __init__(self, data=b"", most=7, says=None):
+        super().__init__()
+        self.data, self.most, self.says, self.calls = bytearray(data), most, says or {}, 0
+
+    def readable(self):
+        return True
+
+    def writable(self):
+        return True
+
+    def read(self, size=-1):
+        self.calls += 1
+        if self.calls in self.says:
+            return self.says[self.calls]
+        count = min(self.most, size)
+        data, self.data = bytes(self.data[:count]), self.data[count:]
+        return data
+
+    def write(self, data):
+        self.calls += 1
+        if self.calls in self.says:
+            return self.says[self.calls]
+        self.data += data[:self.most]
+        return min(self.most, len(data))
+
+
+class Files(unittest.TestCase):
+    """Streams over files that have no buffer, that don't wait, and that fail."""
+
+    def setUp(self):
+        self.keys = tinkey.Streaming.from_json(read("examples/streams.json"))
+        self.text = os.urandom(20000)
+        sealed = io.BytesIO()
+        self.keys.encrypt_file(io.BytesIO(self.text), sealed, b"ad")
+        self.sealed = sealed.getvalue()
+
+    def test_a_file_may_give_and_take_little_at_once(self):
+        for most in (1, 7, 4096, 1 << 20):
+            sealed, opened = Raw(most=most), Raw(most=most)
+            self.keys.encrypt_file(Raw(self.text, most), sealed, b"ad")
+            self.keys.decrypt_file(Raw(sealed.data, most), opened, b"ad")
+            self.assertEqual(opened.data, self.text)
+
+    def test_a_file_may_have_no_buffer(self):
+        with tempfile.TemporaryDirectory() as folder:
+            with open(f"{folder}/plain", "wb") as file:
+                file.write(self.text)
+            for call, source, destination in ((self.keys.encrypt_file, "plain", "sealed"),
+                                              (self.keys.decrypt_file, "sealed", "opened")):
+                with open(f"{folder}/{source}", "rb", buffering=0) as given, \
+                        open(f"{folder}/{destination}", "wb", buffering=0) as taken:
+                    call(given, taken, b"ad")
+            with open(f"{folder}/opened", "rb") as file:
+                self.assertEqual(file.read(), self.text)
+
+    def blocks(self, call, *files):
+        """A call raises that a file would have to wait, and nothing else."""
+        with self.assertRaises(BlockingIOError) as told:
+            call(*files, b"ad")
+        self.assertEqual(told.exception.errno, errno.EAGAIN)
+
+    def test_a_file_that_does_not_wait_is_no_end(self):
+        for at in (1, 2, 100):
+            self.blocks(self.keys.encrypt_file, Raw(self.text, says={at: None}), io.BytesIO())
+            self.blocks(self.keys.encrypt_file, io.BytesIO(self.text), Raw(says={at: None}))
+            opened = io.BytesIO()
+            self.blocks(self.keys.decrypt_file, Raw(self.sealed, 100, {at: None}), opened)
+            self.assertTrue(self.text.startswith(opened.getvalue()))
+            self.blocks(self.keys.decrypt_file, io.BytesIO(self.sealed), Raw(says={at: None}))
+
+    def test_a_pipe_that_does_not_wait_is_no_end(self):
+        for call in (self.keys.encrypt_file, self.keys.decrypt_file):
+            reads, writes = os.pipe()
+            with open(reads, "rb", buffering=0) as source, open(writes, "wb", buffering=0) as destination:
+                os.set_blocking(reads, False)
+                os.set_blocking(writes, False)
+                self.blocks(call, source, io.BytesIO())
+        reads, writes = os.pipe()
+        with open(reads, "rb", buffering=0), open(writes, "wb", buffering=0) as destination:
+            os.set_blocking(writes, False)
+            # more than a pipe holds
+            self.blocks(self.keys.encrypt_file, io.BytesIO(bytes(1 << 21)), destination)
+
+    def test_a_file_that_takes_no_bytes_or_too_many_fails(self):
+        for count in (0, -1, 1 << 40):
+            for at in (1, 2, 100):
+                with self.assertRaises(OSError) as told:
+                    self.keys.encrypt_file(io.BytesIO(self.text), Raw(says={at: count}), b"ad")
+                self.assertNotIsInstance(told.exception, BlockingIOError)
+        self.assertRaises(TypeError, self.keys.encrypt_file, io.StringIO("text"), io.BytesIO())
+
+    def test_an_error_of_a_file_comes_as_it_is(self):
+        class Fails(io.BytesIO):
+            """A file that fails."""
+
+            def read(self, size=-1):
+                raise ZeroDivisionError
+
+            write = read
+
+        for call in (self.keys.encrypt_file, self.keys.decrypt_file):
+            self.assertRaises(ZeroDivisionError, call, Fails(), io.BytesIO(), b"ad")
+            self.assertRaises(ZeroDivisionError, call, io.BytesIO(self.sealed), Fails(), b"ad")
+
+
+class Rooms(unittest.TestCase):
+    """What calls of a stream give, beside what the guide says of the room that they take."""
+
+    def most(self, stream, data, size):
+        """The most bytes that an update with so many gives, all that was given, and what the end gives."""
+        given = [stream.update(data[at:at + size]) for at in range(0, len(data), size)]
+        last = stream.finish()
+        stream.close()
+        return max(map(len, given)), b"".join(given) + last, len(last)
+
+    def test_calls_give_no_more_than_the_guide_says(self):
+        rows = re.findall(r"\| `tinkey_(\w+)`[^|]*\|[^|]*\| ([\d,]+) \| ([\d,]+) \|", read("docs/LIBRARY.md"))
+        guide = {name: [int(it.replace(",", "")) for it in numbers] for name, *numbers in rows}
+        texts = read("examples/streams.json"), keyset(key("AesGcmHkdfStreamingKey"))
+        for place, (segment, text) in enumerate(zip((4096, 1 << 20), texts)):
+            part = segment - 16
+            finish = {"sealing_finish": segment, "opening_finish": part}
+            with tinkey.Streaming.from_json(text) as keys:
+                for size in (1000, part, segment, 65536):
+                    update = {"sealing_update": (size // part + 1) * segment,
+                              "opening_update": (size // segment + 1) * part}
+                    if size == 65536:
+                        self.assertEqual({name: it[place] for name, it in guide.items()}, {**update, **finish})
+                    # three segments or more, the last of which is full
+                    plain = os.urandom((max(3, 4 * size // part) * part) - 24)
+                    most, sealed, last = self.most(keys.sealing(), plain, size)
+                    self.assertEqual(last, finish["sealing_finish"])
+                    self.assertLessEqual(most, update["sealing_update"])
+                    self.assertGreaterEqual(most, update["sealing_update"] - segment)
+                    most, opened, last = self.most(keys.opening(), sealed, size)
+                    self.assertEqual((opened, last), (plain, finish["opening_finish"]))
+                    self.assertLessEqual(most, update["opening_update"])
+                    self.assertGreaterEqual(most, update["opening_update"] - part)
+
+    def test_every_page_says_how_much_room_is_enough(self):
+        for page in ("include/tinkey.h", "docs/tinkey.3", "docs/LIBRARY.md"):
+            text = read(page).replace("\\-", "-")
+            for room in ("(N / (S - T) + 1) * S", "(N / S + 1) * (S - T)"):
+                self.assertIn(room, text, page)
+
+
+if __name__ == "__main__":
+    unittest.main()
