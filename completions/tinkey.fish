@@ -43,7 +43,7 @@ complete -c tinkey -n '__tinkey_at 1' -a sreseal -d 'opens a stream, and seals i
 complete -c tinkey -n '__tinkey_at 1' -a tag -d 'tags standard input under the primary key'
 complete -c tinkey -n '__tinkey_at 1' -a verify -d 'says whether a tag is valid under any enabled key'
 complete -c tinkey -n '__tinkey_at 1' -a derive -d 'derives bytes from standard input'
-complete -c tinkey -n '__tinkey_at 1' -a session -d 'answers lines that seal, open, tag, verify, derive and edit'
+complete -c tinkey -n '__tinkey_at 1' -a session -d 'answers lines that seal, open, tag, verify, derive, edit and save'
 complete -c tinkey -n '__tinkey_at 1' -a selftest -d 'seals, opens and edits many times, and counts the results'
 complete -c tinkey -n '__tinkey_at 1' -a wrap-keyset -d 'seals a keyset under another one, the master'
 complete -c tinkey -n '__tinkey_at 1' -a unwrap-keyset -d 'opens a keyset that was wrapped'

@@ -12,15 +12,15 @@ use Rattle.keyset_model.specs.Keyset.{Keys, primary_of}
 use Rattle.keyset_model.specs.declared.record.Record.{Record}
 use Rattle.managers.specs.Table.{Table}
 use Rattle.managers.specs.Uses.{iv_size, seal_of}
-use Rattle.random_draws.specs.Slices.{Fill, Id, Key, edit_fills, effect_fills, fill_of, fills, iv_fills, new_fills, opened_fills, asked_fills, total, unless_there, Iv}
+use Rattle.random_draws.specs.Slices.{Fill, Id, Key, edit_fills, effect_fills, fill_of, fills, iv_fills, new_fills, opened_fills, asked_fills, save_fills, total, unless_there, Iv}
 use Rattle.tinkey_cmds.specs.Draws.{Drawn, and_then, answered as answers}
 use Rattle.tinkey_cmds.specs.Edits.{Edit, EditOf, added, effect_of, grown, id_of, is_taken, new_id, record_of, refusal_of, rotated, step, unless_refused, with_key}
 use Rattle.tinkey_cmds.specs.Edits as edits
 use Rattle.tinkey_cmds.specs.declared.command.EditRefusal.{EditRefusal}
 use Rattle.tinkey_session.proofs.DrawLemmas.{served_left}
 use Rattle.tinkey_session.proofs.Options.{clash, map_some, then_some}
-use Rattle.tinkey_session.specs.Lines.{Line, Seal, Dseal, Open, Dopen, Reseal, Dreseal, Tag, Verify, Derive, Edit as AsksEdit, Bad}
-use Rattle.tinkey_session.specs.Serving.{Served, answered, cannot_serve, computed, derived_reply, edit_line, edit_named, if_opened, or_refused, refused_line, sealed_reply, serve, stepped, unless_unfit}
+use Rattle.tinkey_session.specs.Lines.{Line, Seal, Dseal, Open, Dopen, Reseal, Dreseal, Tag, Verify, Derive, Edit as AsksEdit, Save, Outcome, Bad}
+use Rattle.tinkey_session.specs.Serving.{Served, answered, cannot_serve, computed, derived_reply, drawn_size, edit_line, edit_named, if_opened, or_refused, refused_line, saved_line, saved_reply, sealed_reply, serve, stepped, unless_unfit}
 use Rattle.tinkey_session.specs.declared.reply.Refusal.{Refusal}
 use Rattle.tinkey_session.specs.declared.reply.LineRefusal.TheVariants.{OpenFailed, Refused}
 use Rattle.tinkey_session.specs.declared.reply.Reply.{Reply}
@@ -204,6 +204,20 @@ took-opened : (keys : Keys) (random : List ℕ) (o : Option (List ℕ)) (next : 
 took-opened keys random (Some plain) next x took e = took plain e
 took-opened keys random None next x took e = took-answered keys random (Refuses OpenFailed) x e
 
+-- a save takes its IV
+save_took : (size : ℕ) (random left : List ℕ) → Took size random left → Took (total (save_fills size)) random left
+save_took zero random left took = took
+save_took (suc size) random left took = took-one (fill_of Iv (suc size)) random left took
+
+saved_took : (keys : Keys) (outcome : Outcome) (random : List ℕ) (x : Served) → saved_line keys random outcome ≡ Some x → Took (total (save_fills (drawn_size outcome))) random x.left
+saved_took keys outcome random x e = by (ltb (length random) (drawn_size outcome)) refl e
+  where
+    by : (b : Bool) → ltb (length random) (drawn_size outcome) ≡ b
+        → cond b None (Some (answered keys (drop (drawn_size outcome) random) (saved_reply outcome.why))) ≡ Some x
+        → Took (total (save_fills (drawn_size outcome))) random x.left
+    by true t k = clash k
+    by false t k = save_took (drawn_size outcome) random x.left (record { behind = sym (ap (λ y. y.left) (same_Some _ _ k)); enough = ltb-false _ _ t })
+
 pub line_took : (table : Table) (keys : Keys) (line : Line) (random : List ℕ) (x : Served) → serve table keys line random ≡ Some x → Took (total (fills table keys line random)) random x.left
 unfolding serve fills
 line_took table keys (Seal plain ad) random x e = seal_took table keys plain ad random x (unfit keys Aead table) e
@@ -216,4 +230,5 @@ line_took table keys (Tag body) random x e = took-unless (unfit keys Mac table) 
 line_took table keys (Verify tag body) random x e = took-unless (unfit keys Mac table) keys random _ x (took-answered keys random _ x) e
 line_took table keys (Derive size input) random x e = took-unless (unfit keys Prf table) keys random _ x (took-computed keys random (derived_reply size) (derive_answer keys table input size) x) e
 line_took table keys (AsksEdit edit) random x e = asked_took table keys edit random x e
+line_took table keys (Save name outcome) random x e = saved_took keys outcome random x e
 line_took table keys Bad random x e = took-answered keys random _ x e

@@ -1,9 +1,10 @@
 -- What draws in the plan of a command is one of the six steps or a session over a keyset.
-use Rattle.std.proofs.Common.{◌≡◌, refl, ℕ, ◌+◌, Bool, true, false, List, [], ◌∷◌, drop, Option, Some, None, Result, Ok, Err}
+use Rattle.std.proofs.Common.{refl, ℕ, ◌+◌, Bool, true, false, List, [], ◌∷◌, drop, Option, Some, None, Result, Ok, Err}
 use Rattle.key_msgs.specs.Templates.{row_named}
 use Rattle.key_msgs.specs.declared.primitive.Primitive.TheVariants.{Aead}
 use Rattle.keyset_model.specs.Keyset.{Keys}
 use Rattle.managers.specs.Table.{Table, scheme_at}
+use Rattle.random_draws.specs.Runs.{IsSaving}
 use Rattle.random_draws.specs.Steps.{IsStep, Step, creation, edition, enveloping, heading, sealing, wrapping}
 use Rattle.seal_wrap.specs.Enveloping.{url_made}
 use Rattle.segment_stream.specs.KeysModel.{KeysForStreams}
@@ -18,7 +19,7 @@ use Rattle.tinkey_plans.specs.KeyOf.{key_of_answer, stream_record_line, tells_fr
 use Rattle.tinkey_plans.specs.Locks.{puts_under, writes_under}
 use Rattle.tinkey_plans.specs.Plan.{Of, Plan, ends, writes, creates, looks, allocates, loads, reads_all, reads_front, ranges, draws, pumps, collects, exchanges, keysets}
 use Rattle.tinkey_plans.specs.SelfTesting.{tells_counts}
-use Rattle.tinkey_plans.specs.Session.{finds_free, holds_session, saves_as}
+use Rattle.tinkey_plans.specs.Session.{finds_free, form_under, holds_session, saves_as}
 use Rattle.tinkey_plans.specs.Steps.{makes_keyset, puts}
 use Rattle.tinkey_plans.specs.FileRange.{Opened}
 use Rattle.tinkey_plans.specs.Streaming as streaming
@@ -27,7 +28,7 @@ use Rattle.tinkey_plans.specs.declared.origin.Origin.TheVariants as origins
 use Rattle.tinkey_plans.specs.declared.status.Status.TheVariants as status
 use Rattle.tinkey_selftest.specs.Trial as trial
 use Rattle.tinkey_selftest.specs.declared.counts.Counts.{Counts}
-use Rattle.tinkey_session.specs.Talking.{talk}
+use Rattle.tinkey_session.specs.Saving.{Form}
 use Rattle.tinkey_words.specs.declared.words.misuse.Misuse.{Misuse}
 use Rattle.tinkey_words.specs.declared.words.request.StreamWork.{StreamWork}
 use Rattle.tinkey_words.specs.declared.words.request.StreamWork.TheVariants as works
@@ -53,7 +54,7 @@ IsDrawing (draws kind give next) =
 IsDrawing (pumps part) = Unit {0}
 IsDrawing (collects part next) = (output : List ℕ) → IsDrawing (next output)
 IsDrawing (exchanges exchange next) =
-    ((table : Table) × (keys : Keys) × (exchange ≡ talk table keys)) × ((keys : Keys) → IsDrawing (next keys))
+    ((table : Table) × (form : Form) × (keys : Keys) × IsSaving exchange table form keys) × ((keys : Keys) → IsDrawing (next keys))
 
 closed : IsClosed IsDrawing
 closed = record { ended = λ s stated. tt; allocated = λ next all. all }
@@ -116,7 +117,7 @@ free_drawing None next all = all
 free_drawing (Some name) next all = all
 
 session_drawing : (table : Table) (master : Option Keys) (out : KeysetFile) (keys : Keys) → IsDrawing (holds_session table master out keys)
-session_drawing table master out keys = free_drawing out.file _ ((table, keys, refl), saved_drawing table master out.file out.form)
+session_drawing table master out keys = free_drawing out.file _ ((table, form_under table master out.form, keys, λ answers. refl), saved_drawing table master out.file out.form)
 
 streams_drawing : (table : Table) (lock : Lock) (name : List ℕ) (form : Format) (next : KeysForStreams → Plan) → AreAll IsDrawing next → IsDrawing (streaming.loads_stream_keys table lock name form next)
 streams_drawing table lock name form next all = loaded_each IsDrawing open_drawing table lock name form _ (λ keys. stream_fit_drawing _ (streams.stream_unfit keys) _ (stream_keys_drawing (streaming.keys_for keys) next all))

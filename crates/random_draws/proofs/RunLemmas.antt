@@ -17,7 +17,7 @@ use Rattle.tinkey_plans.specs.Plan.{Plan, ends, writes, creates, looks, allocate
 use Rattle.tinkey_plans.specs.Promises.{IsLeft, Moved}
 use Rattle.tinkey_plans.specs.declared.status.Status.{Status}
 use Rattle.tinkey_session.proofs.Options.{map_some}
-use Rattle.tinkey_session.specs.TalkLaws.{TalkIsTurns}
+use Rattle.tinkey_session.specs.TalkLaws.{SavesAreTurns}
 
 -- the slices of a run, among the bytes that it drew
 abbrev Slices : (stream : List ℕ) (place : ℕ) (p : Plan) (files : Option Files) (s : Status) (moved : Moved) → IsLeft p files s moved → Type 0
@@ -43,7 +43,7 @@ end_of first more all place mine later parts one two =
 none : (place size : ℕ) → AreInOrder place [] (place + size)
 none place size = omega arith
 
-slices_of : SlicesAreSettled → TalkIsTurns → (p : Plan) → IsDrawing p → (files : Option Files) (s : Status) (moved : Moved) (left : IsLeft p files s moved) (stream rest : List ℕ) (place : ℕ)
+slices_of : SlicesAreSettled → SavesAreTurns → (p : Plan) → IsDrawing p → (files : Option Files) (s : Status) (moved : Moved) (left : IsLeft p files s moved) (stream rest : List ℕ) (place : ℕ)
     → moved.drawn ++ rest ≡ drop place stream → Slices stream place p files s moved left
 slices_of settled is_turns (ends t stated) drawing files s moved left stream rest place stands = ([], refl, none place _)
 slices_of settled is_turns (writes output) drawing files s moved left stream rest place stands = ([], refl, none place _)
@@ -86,23 +86,23 @@ slices_of settled is_turns (collects part next) drawing files s moved (inr on) s
     slices_of settled is_turns (next (part.output on.0 true)) (drawing (part.output on.0 true)) files s (record moved { taken = on.1 }) on.4 stream rest place stands
 slices_of settled is_turns (exchanges exchange next) drawing files s moved (inl here) stream rest place stands =
     let at = drawing.0 in
-    let d = left_drew settled is_turns at.0 at.1 exchange at.2 stream rest place s moved stands here in
-    (d.0, (at.0, at.1, at.2, d.1), d.2)
+    let d = left_drew settled is_turns at.0 at.1 at.2 exchange at.3 here.0 stream rest place s moved stands here.2 in
+    (d.0, (at.0, at.1, at.2, at.3, d.1), d.2)
 slices_of settled is_turns (exchanges exchange next) drawing files s moved (inr on) stream rest place stands =
     let at = drawing.0 in
-    let parts = ap (λ m. m.drawn) on.2 in
+    let parts = ap (λ m. m.drawn) on.3 in
     let whole = two_parts stream on.0.drawn on.1.drawn moved.drawn rest place parts stands in
-    let d = replied_drew settled is_turns at.0 at.1 exchange at.2 stream (on.1.drawn ++ rest) place on.0 _ _ whole on.3 in
-    let keys = (exchange on.0.taken on.0.drawn _).keys in
-    let later = slices_of settled is_turns (next keys) (drawing.1 keys) files s on.1 on.4 stream rest (place + length on.0.drawn) (stands_behind stream on.0.drawn on.1.drawn rest place whole) in (
+    let d = replied_drew settled is_turns at.0 at.1 at.2 exchange at.3 on.5 stream (on.1.drawn ++ rest) place on.0 _ _ whole on.7 in
+    let keys = (exchange on.5 on.0.taken on.0.drawn _).keys in
+    let later = slices_of settled is_turns (next keys) (drawing.1 keys) on.2 s on.1 on.8 stream rest (place + length on.0.drawn) (stands_behind stream on.0.drawn on.1.drawn rest place whole) in (
       d.0 ++ later.0,
-      (at.0, at.1, at.2, d.0, later.0, refl, d.1, later.1),
+      (at.0, at.1, at.2, at.3, d.0, later.0, refl, d.1, later.1),
       end_of on.0.drawn on.1.drawn moved.drawn place d.0 later.0 parts d.2 later.2,
     )
 
 -- ---- runs
 
-pub runs_draw : SlicesAreSettled → TalkIsTurns → RunsDraw
+pub runs_draw : SlicesAreSettled → SavesAreTurns → RunsDraw
 runs_draw settled is_turns r leaves stream place within left =
     let bytes = leaves.moved.drawn in
     let lost = leaves.gone.lost in
@@ -127,7 +127,7 @@ runs_draw settled is_turns r leaves stream place within left =
       },
     )
 
-in_order : SlicesAreSettled → TalkIsTurns → (runs : List OneRun) (entropy : EntropyState) (stream : List ℕ) (place : ℕ) → place ≤ length stream → AreInARow runs entropy → entropy.left ≡ Some (drop place stream)
+in_order : SlicesAreSettled → SavesAreTurns → (runs : List OneRun) (entropy : EntropyState) (stream : List ℕ) (place : ℕ) → place ≤ length stream → AreInARow runs entropy → entropy.left ≡ Some (drop place stream)
     → (all : List Slice) × DrewInARow stream place runs all × AreInOrder place all (length stream)
 in_order settled is_turns [] entropy stream place within row left = ([], refl, within)
 in_order settled is_turns (r ∷ later) entropy stream place within row left =
@@ -141,5 +141,5 @@ in_order settled is_turns (r ∷ later) entropy stream place within row left =
       order-append place next (length stream) mine.0 rest.0 order rest.2,
     )
 
-pub runs_draw_in_order : SlicesAreSettled → TalkIsTurns → RunsDrawInOrder
+pub runs_draw_in_order : SlicesAreSettled → SavesAreTurns → RunsDrawInOrder
 runs_draw_in_order settled is_turns runs entropy stream row left = in_order settled is_turns runs entropy stream 0 (omega arith) row left

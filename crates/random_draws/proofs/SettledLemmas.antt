@@ -15,7 +15,7 @@ use Rattle.tinkey_cmds.specs.Edits as edits
 use Rattle.tinkey_cmds.specs.declared.command.EditRefusal.{EditRefusal}
 use Rattle.tinkey_session.proofs.DrawLemmas.{lines_draw_fronts}
 use Rattle.tinkey_session.proofs.Options.{clash, map_some}
-use Rattle.tinkey_session.specs.Lines.{Line, Seal, Dseal, Open, Dopen, Reseal, Dreseal, Tag, Verify, Derive, Edit as AsksEdit, Bad}
+use Rattle.tinkey_session.specs.Lines.{Line, Seal, Dseal, Open, Dopen, Reseal, Dreseal, Tag, Verify, Derive, Edit as AsksEdit, Save, Bad}
 use Rattle.tinkey_session.specs.Serving.{Served, edit_line, edit_named, or_refused, refused_line, serve, stepped}
 use Rattle.tinkey_session.specs.Session.{Remains, remains, turn_then, turns}
 use Rattle.tinkey_session.specs.declared.reply.Refusal.{Refusal}
@@ -95,6 +95,7 @@ fills_more table keys (Tag body) random more x e = refl
 fills_more table keys (Verify tag body) random more x e = refl
 fills_more table keys (Derive size input) random more x e = refl
 fills_more table keys (AsksEdit edit) random more x e = asked_more table keys edit random more x e
+fills_more table keys (Save name outcome) random more x e = refl
 fills_more table keys Bad random more x e = refl
 
 abbrev with_behind : List ℕ → Served → Served

@@ -18,10 +18,11 @@ use Rattle.tinkey_plans.specs.Ends.{World}
 use Rattle.tinkey_plans.specs.Plan.{Plan, ends, writes, creates, looks, allocates, loads, reads_all, reads_front, ranges, draws, pumps, collects, exchanges}
 use Rattle.tinkey_plans.specs.Promises.{IsLeft, Leaves, Moved}
 use Rattle.tinkey_plans.specs.declared.status.Status.{Status}
-use Rattle.tinkey_session.specs.Lines.{line_of}
-use Rattle.tinkey_session.specs.Session.{lines_of, turns}
+use Rattle.tinkey_session.specs.Lines.{Line, line_of}
+use Rattle.tinkey_session.specs.Saving.{Form, Resolves, StoreAnswers, resolved}
+use Rattle.tinkey_session.specs.Session.{lines_by, lines_of, turns}
 use Rattle.tinkey_session.specs.TalkLaws.{replies_text}
-use Rattle.tinkey_session.specs.Talking.{talk}
+use Rattle.tinkey_session.specs.Talking.{Exchange, saving, talk_by}
 
 -- Each slice begins at the end of the one before or behind it, the first one at this place or behind
 -- it, and the last one ends at this end or before it.
@@ -47,22 +48,34 @@ abbrev pub MovedAreSame : Type 0
 MovedAreSame = (more : ℕ) (d : Slice) (stream : List ℕ)
     → bytes_of (moved_by more d) stream ≡ bytes_of d (drop more stream)
 
+-- the lines of a session, each as it is resolved over what those before it left of the stream from this place on
+abbrev pub lines_drawn : (stream : List ℕ) (place : ℕ) → Table → Resolves → Keys → List (List ℕ) → List Line
+lines_drawn stream place table resolve keys answered =
+    lines_by table resolve [] keys (map line_of answered) (drop place stream)
+
 -- What a session over this keyset drew of the stream from this place on. Of the lines of the bytes
 -- that were taken the first ones were answered, each by its own slices; their replies were written,
--- or the first bytes of these.
-pub record SessionDrew (stream : List ℕ) (place : ℕ) (table : Table) (keys : Keys) (moved : Moved)
-    (mine : List Slice) : Type 0 where
+-- or the first bytes of these. What lines come to ask is `resolve` of them: one that saves the keyset draws its IV.
+pub record SessionDrew (stream : List ℕ) (place : ℕ) (table : Table) (resolve : Resolves) (keys : Keys)
+    (moved : Moved) (mine : List Slice) : Type 0 where
   pub taken : List ℕ
   pub more : List ℕ
   pub front : taken ++ more ≡ moved.taken
   pub answered : List (List ℕ)
   pub later : List (List ℕ)
   pub cut : lines_of taken ≡ answered ++ later
-  pub whole : length (turns table keys (map line_of answered) (drop place stream)) ≡ length answered
+  pub whole : length (turns table keys (lines_drawn stream place table resolve keys answered) (drop place stream))
+      ≡ length answered
   pub unwritten : List ℕ
-  pub told : moved.written ++ unwritten
-      ≡ replies_text (turns table keys (map line_of answered) (drop place stream))
-  pub are : mine ≡ map (moved_by place) (slices table keys (map line_of answered) (drop place stream))
+  pub told : moved.written ++ unwritten ≡ replies_text
+      (turns table keys (lines_drawn stream place table resolve keys answered) (drop place stream))
+  pub are : mine ≡ map (moved_by place)
+      (slices table keys (lines_drawn stream place table resolve keys answered) (drop place stream))
+
+-- it is the session over a keyset that lines save in this form
+abbrev pub IsSaving : (StoreAnswers → Exchange) → Table → Form → Keys → Type 0
+IsSaving exchange table form keys =
+    (answers : StoreAnswers) → exchange answers ≡ talk_by (saving table form answers) keys
 
 -- ---- a run
 
@@ -105,14 +118,14 @@ HasDrawn stream place (collects part next) files s moved (inl here) mine = mine 
 HasDrawn stream place (collects part next) files s moved (inr on) mine =
     HasDrawn stream place (next (part.output on.0 true)) files s (record moved { taken = on.1 }) on.4 mine
 HasDrawn stream place (exchanges exchange next) files s moved (inl here) mine =
-    (table : Table) × (keys : Keys) × (exchange ≡ talk table keys)
-    × SessionDrew stream place table keys moved mine
+    (table : Table) × (form : Form) × (keys : Keys) × IsSaving exchange table form keys
+    × SessionDrew stream place table (resolved form here.0) keys moved mine
 HasDrawn stream place (exchanges exchange next) files s moved (inr on) mine =
-    (table : Table) × (keys : Keys) × (exchange ≡ talk table keys)
+    (table : Table) × (form : Form) × (keys : Keys) × IsSaving exchange table form keys
     × (first : List Slice) × (later : List Slice) × (mine ≡ first ++ later)
-    × SessionDrew stream place table keys on.0 first
+    × SessionDrew stream place table (resolved form on.5) keys on.0 first
     × HasDrawn stream (place + length on.0.drawn)
-    (next (exchange on.0.taken on.0.drawn true).keys) files s on.1 on.4 later
+    (next (exchange on.5 on.0.taken on.0.drawn true).keys) on.2 s on.1 on.8 later
 
 -- a run of the program: the table of its managers, its words, its status, and the objects before and
 -- after it

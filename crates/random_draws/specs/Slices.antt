@@ -16,8 +16,8 @@ use Rattle.managers.specs.Table.{Table}
 use Rattle.managers.specs.Uses.{iv_size}
 use Rattle.tinkey_cmds.specs.Edits.{Edit, id_of, is_taken, refusal_of}
 use Rattle.tinkey_cmds.specs.Edits as edits
-use Rattle.tinkey_session.specs.Lines.{Line, Reseal, Seal, Edit as AsksEdit}
-use Rattle.tinkey_session.specs.Serving.{Served, edit_named, or_refused, serve}
+use Rattle.tinkey_session.specs.Lines.{Line, Reseal, Save, Seal, Edit as AsksEdit}
+use Rattle.tinkey_session.specs.Serving.{Served, drawn_size, edit_named, or_refused, serve}
 use Rattle.tinkey_session.specs.declared.reply.Refusal.{Refusal}
 use Rattle.wrapped_prims.specs.Answers.{open_answer, primary_key}
 use Rattle.wrapped_prims.specs.Fitness.{unfit}
@@ -84,8 +84,13 @@ abbrev pub opened_fills : {A : Type 0} → Option A → List Fill → List Fill
 opened_fills None filled = []
 opened_fills (Some plain) filled = filled
 
+-- the IV of a save, where it has one
+abbrev pub save_fills : (size : ℕ) → List Fill
+save_fills zero = []
+save_fills (suc size) = fill_of Iv (suc size) ∷ []
+
 -- Of the lines of a session `seal` draws an IV, if the keyset can serve, `reseal` too if its text opens, and
--- an edit draws what it needs. All others draw nothing.
+-- an edit draws what it needs, and so does a save. All others draw nothing.
 unfoldable pub fills : Table → Keys → Line → (random : List ℕ) → List Fill
 fills table keys (Seal plain ad) random =
     unless_there (unfit keys Aead table) (iv_fills (primary_key keys table Aead))
@@ -94,6 +99,7 @@ fills table keys (AsksEdit edit) random =
 fills table keys (Reseal sealed ad) random =
     unless_there (unfit keys Aead table) (opened_fills (open_answer keys table sealed ad)
     (iv_fills (primary_key keys table Aead)))
+fills table keys (Save name outcome) random = save_fills (drawn_size outcome)
 fills table keys line random = []
 
 -- ---- in their places

@@ -6,7 +6,7 @@ ghost use Rattle.random_draws.specs.Sessions.{NoByteServesTwice, SlicesAreAll, S
 ghost use Rattle.random_draws.specs.Sessions.{SlicesApart, SlicesAreWithin, SlicesFollow, SlicesGoOn, TurnsHaveSlices};
 ghost use Rattle.tinkey_cmds.specs.Edits.{Add, Rotate};
 
-use tinkey_session::laws::talk_is_turns;
+use tinkey_session::laws::saves_are_turns;
 
 /// Every random byte of a run is used at most once. What a run makes from random bytes (IV, key,
 /// id, data key, the salt and nonce prefix of a stream) is made from slices of the entropy's bytes,
@@ -23,7 +23,7 @@ pub fn draws_apart()
     ensures moved { MovedAreSame }
 {
     slices_are_settled();
-    talk_is_turns();
+    saves_are_turns();
 }
 
 /// The slices of a session follow one another from its first random byte on, without gaps, and it

@@ -1,14 +1,14 @@
 -- What the program does with its words, its streams and its files.
-use Rattle.std.specs.Prelude.{◌≡◌, ℕ, List, [], ◌++◌, Bool, true, false, drop, Option, Some, IfSome, Result, Ok, Err}
+use Rattle.std.specs.Prelude.{◌≡◌, ◌⊎◌, ℕ, List, [], ◌++◌, Bool, true, false, drop, Option, Some, IfSome, Result, Ok, Err}
 use Rattle.managers.specs.Standard.{standard_table}
 use Rattle.real_objects.specs.Words.{IsFirstNotText}
 use Rattle.tink_base.specs.declared.faults.NoMemory.{NoMemory}
-use Rattle.tink_spec.specs.Files.{Files}
-use Rattle.tink_spec.specs.Outside.{SinkState, RoseOnce, Took}
+use Rattle.tink_spec.specs.Files.{Files, StoreState}
+use Rattle.tink_spec.specs.Outside.{SinkState, Rose, RoseOnce, Took}
 use Rattle.tinkey_plans.specs.Commands.{plan_of}
 use Rattle.tinkey_plans.specs.Ends.{World, world}
 use Rattle.tinkey_plans.specs.Plan.{Plan, Answer, allocates}
-use Rattle.tinkey_plans.specs.Promises.{Promised}
+use Rattle.tinkey_plans.specs.Promises.{Promised, SavesNothing}
 use Rattle.tinkey_host.specs.NotText.{not_text_lines}
 use Rattle.tinkey_host.specs.Terminals.{is_kept_off, kept_off_lines, waiting_line, waits}
 use Rattle.tinkey_host.specs.declared.terminals.Terminals.{Terminals}
@@ -64,6 +64,10 @@ pub data HasEnded (terminals : Terminals) (told : Option (List (List ℕ))) (old
 pub data ProgramEnds (code : ℕ) : Type 0 where
   obeyed : (terminals : Terminals) (told : Option (List (List ℕ))) (old new : World) (before after : SinkState) → HasEnded terminals told old new before after code → ProgramEnds code
   starved : code ≡ code_of statuses.NoMemory → ProgramEnds code
+
+-- these words ask for no session, or no call of the store failed
+abbrev pub IsNoneUnsaved : List (List ℕ) → (before after : StoreState) → Type 0
+IsNoneUnsaved words before after = SavesNothing (start_plan words) ⊎ (Rose before.faults after.faults → ⊥)
 
 -- A stated answer in bytes: its status; what it leaves of the input, if it says that; its output behind what was
 -- written before; its files; and the random bytes that it leaves.

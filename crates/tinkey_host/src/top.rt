@@ -31,8 +31,8 @@ const NOT_TEXT: u8 = 8;
 const KEPT_OFF: u8 = 4;
 
 /// Obeys the words after the program's name, over standard input, output and error, the system's
-/// random bytes and the files. Then standard error gets the cause of a fault of the files, and the
-/// path of a file that couldn't be removed.
+/// random bytes and the files. Then standard error gets the cause of the last fault of the files, if
+/// there was one, and the path of a file that couldn't be removed.
 ///
 /// Before a file is opened, each of the three streams is asked whether it is open, and whether it
 /// is a terminal. No contract can say what the system then gives and takes: the exit code is one
@@ -63,10 +63,8 @@ pub fn program(rt: &HostRuntime) -> ExitCode
         &mut FileEntropy::new(RandomDevice::new(rt)),
         &mut store,
     );
-    // A run ends with its first fault of the store, so that this is the fault reported.
-    if code == ExitCode::from(Status::StoreFault.code()) {
-        tell_cause(&mut diag, store.cause());
-    }
+    // A run ends with its first fault of the store, but for a session, whose replies may report some.
+    tell_cause(&mut diag, store.cause());
     tell_left(&mut diag, store.left());
     code
 }

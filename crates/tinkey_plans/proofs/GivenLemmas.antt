@@ -1,10 +1,12 @@
 -- How much was read of files, of every end of every plan; and so for srange.
-use Rattle.std.proofs.Common.{arith, ◌≡◌, inl, inr, refl, sym, ap, subst, ℕ, ◌+◌, length, Option, true}
+use Rattle.std.proofs.Common.{arith, ◌≡◌, inl, inr, refl, sym, ap, subst, ℕ, ◌+◌, List, [], ◌∷◌, length, Option, true}
 use Rattle.tink_spec.specs.Files.{Files, StoreState}
+use Rattle.tinkey_session.proofs.StoreLemmas.{asks_given}
+use Rattle.tinkey_session.specs.Saving.{Asks, FileAsked}
 use Rattle.tinkey_plans.specs.declared.status.Status.{Status}
 use Rattle.tinkey_plans.specs.Plan.{Plan, ends, writes, creates, looks, allocates, loads, reads_all, reads_front, ranges, draws, pumps, collects, exchanges}
 use Rattle.tinkey_plans.specs.Ends.{World, Ends, GaveWithin, loaded, load_absent, load_long, load_failed, load_starved, ranged, range_absent, range_failed, range_starved, wrote, write_failed, made, name_taken, create_failed, create_starved, look_free, look_taken, look_failed, read, too_long, read_failed, read_starved, front_read, front_failed, settled, draw_failed, draw_starved, collected, collect_refused, collect_unread, collect_unkept, exchanged, exchange_ended}
-use Rattle.tinkey_plans.specs.Promises.{MayGive, Reads}
+use Rattle.tinkey_plans.specs.Promises.{AsksOver, MayGive, Reads}
 
 -- nothing was given
 pub none_given : (old new : StoreState) → old ≡ new → GaveWithin old new 0
@@ -29,8 +31,14 @@ given_more p rest old mid new first files some may later = record {
   within = omega (arith, some, later.within);
 }
 
-store_same : (old new : StoreState) → old ≡ new → old.files ≡ new.files
-store_same old new same = ap (λ (x : StoreState). x.files) same
+-- files that were asked for, of what the store holds
+pub asks_over : (asked : List FileAsked) (old new : StoreState) → Asks asked old new → AsksOver asked old.files new.files
+asks_over [] old new same = ap (λ (x : StoreState). x.files) same
+asks_over (a ∷ asked) old new asks = (old, asks.0, refl, asks.1, asks_over asked asks.0 new asks.2)
+
+-- nor is anything given by asking for files
+asks_none : (asked : List FileAsked) (old new : StoreState) → Asks asked old new → GaveWithin old new 0
+asks_none asked old new asks = omega (arith, asks_given asked old new asks)
 
 pub reads : (p : Plan) (old : World) (s : Status) (new : World) → Ends p old s new → Reads p old new
 reads (ends answered stated) old s new (is, same) = given_none _ old new refl (none_given _ _ (ap (λ (w : World). w.store) same))
@@ -75,6 +83,11 @@ reads (collects part next) old s new (collected all source store gave stood kept
 reads (collects part next) old s new (collect_refused taken ended refusal is kept_draft source store end decided lasting) = given_none _ old new (inl refl) kept_draft.given
 reads (collects part next) old s new (collect_unread taken is kept_draft rose store none) = given_none _ old new (inl refl) kept_draft.given
 reads (collects part next) old s new (collect_unkept taken ended is kept_draft source rose some) = given_none _ old new (inl refl) kept_draft.given
-reads (exchanges exchange next) old s new (exchanged keys mid talk store steady run) =
-    given_later _ (next keys) old mid new (store_same _ _ store) (none_given _ _ store) (λ n may. inr (keys, may)) (reads (next keys) mid s new run)
-reads (exchanges exchange next) old s new (exchange_ended fault is talk store steady) = given_none _ old new (inl refl) (none_given _ _ store)
+reads (exchanges exchange next) old s new (exchanged keys mid talk steady run) =
+    let later = reads (next keys) mid s new run in
+    record {
+      given = later.given;
+      may = inr (keys, talk.asked, mid.store.files, asks_over talk.asked old.store mid.store talk.asks, later.may);
+      within = omega (arith, asks_none talk.asked old.store mid.store talk.asks, later.within);
+    }
+reads (exchanges exchange next) old s new (exchange_ended fault is talk steady) = given_none _ old new (inl refl) (asks_none talk.asked old.store new.store talk.asks)

@@ -38,6 +38,7 @@ use Rattle.tinkey_plans.specs.Streaming.{begins_file, keys_for, passes_stream, p
 use Rattle.tinkey_plans.specs.Streaming as streaming
 use Rattle.tinkey_plans.specs.FileRange.{Opened, FileRange, range_in}
 use Rattle.tinkey_session.proofs.Options.{clash}
+use Rattle.tinkey_session.specs.Saving.{by_files, files_after}
 use Rattle.tinkey_session.specs.Talking.{Stop, goes, wants, passes, long_line, many_lines, Talk, Limit}
 use Rattle.tinkey_plans.specs.Commands.{command_plan}
 use Rattle.tinkey_words.specs.Words.{Asked, self_test, KeysetFile, primitive_for, create_keyset, edit_keyset, list_keyset, key_of, convert_keyset, list_key_templates, use_keyset, use_envelope, use_stream, open_range, session, help, version}
@@ -156,8 +157,9 @@ done_exactly (pumps part) told proper = pumped part told (part.refusal told.inpu
 done_exactly (collects part next) told proper =
     gathered (part.refusal told.input true) told _ _ (done_exactly (next (part.output told.input true)) (record told { input = [] }) (proper (part.output told.input true)))
 done_exactly (exchanges exchange next) told proper =
-    let x = exchange told.input told.random true in
-    talked x.stop x told _ _ (done_exactly (next x.keys) (record told { input = []; random = x.random }) (proper x.keys))
+    let x = exchange (by_files told.files) told.input told.random true in
+    let saved = record told { files = files_after told.files x.asked } in
+    talked x.stop x saved _ _ (done_exactly (next x.keys) (record saved { input = []; random = x.random }) (proper x.keys))
 
 -- ---- the commands
 

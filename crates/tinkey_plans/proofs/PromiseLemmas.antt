@@ -1,9 +1,9 @@
 -- Each promise, proved once for every end of every plan.
-use Rattle.std.proofs.Common.{◌≡◌, ◌⊎◌, inl, inr, ℕ, ◌+◌, ◌<◌, ◌≤◌, List, [], ◌++◌, length, take, drop, refl, sym, ◌∙◌, ap, subst, arith, append-nil, length-append, ◌≢◌}
+use Rattle.std.proofs.Common.{◌≡◌, ◌⊎◌, inl, inr, ℕ, ◌+◌, ◌<◌, ◌≤◌, List, [], ◌∷◌, ◌++◌, length, take, drop, refl, sym, ◌∙◌, ap, subst, arith, append-nil, length-append, ◌≢◌}
 use Rattle.std.specs.Prelude.{Option, Some, None, option_map, IfSome, Result, Ok, Err, nat_le, Bool, true, false}
 use Rattle.std.proofs.lemmas.List.{drop_all, drop_at, take_all, take_at}
 use Rattle.std.proofs.lemmas.Bool.Decides.{nat_tests}
-use Rattle.tink_spec.specs.Outside.{SourceState, SinkState, EntropyState, Gave, GaveCount, Took, TookPrefix, Drew, DrewLosing, IsAtEnd}
+use Rattle.tink_spec.specs.Outside.{SourceState, SinkState, EntropyState, Gave, GaveCount, Took, TookPrefix, Drew, DrewLosing, IsAtEnd, Rose, Stood}
 use Rattle.tink_spec.specs.Files.{Files, StoreState, KeptFiles, Holds, HoldsSome, HoldsLonger, Added, AddedFront, MayAdd}
 use Rattle.std.specs.FinMap as map
 use Rattle.tink_spec.proofs.Moves.{gave_same, gave_more, took_same, took_more, drew_nothing, lost_later, lost_nothing}
@@ -15,8 +15,13 @@ use Rattle.segment_stream.specs.declared.fault.OpenPumpFault.TheVariants as faul
 use Rattle.tinkey_cmds.specs.Draws.{Draw, Drawn}
 use Rattle.tinkey_cmds.specs.declared.command.EditRefusal.{EditRefusal}
 use Rattle.keyset_model.specs.Keyset.{Keys}
+use Rattle.tinkey_session.proofs.StoreLemmas.{asks_faults, rose_on, saves_are_told}
+use Rattle.tinkey_session.proofs.UnsavedLemmas.{some_session}
+use Rattle.tinkey_session.specs.Saving as files
+use Rattle.tinkey_session.specs.declared.reply.LineRefusal.TheVariants.{StoreFault}
+use Rattle.tinkey_session.specs.Saving.{Agrees, AsksFor, Asks, FileAsked, StoreAnswers, by_files, files_after}
 use Rattle.tinkey_session.specs.Talking.{Exchange, Talk, Stop, goes, wants, passes, Limit}
-use Rattle.tinkey_session.specs.Talks.{Talks, HasTalked, IsSteady}
+use Rattle.tinkey_session.specs.Talks.{HasAsked, Talks, HasTalked, IsSteady}
 use Rattle.tinkey_session.specs.Talks as talks
 use Rattle.tinkey_session.specs.declared.talk.TalkFault.{TalkFault}
 use Rattle.tinkey_session.specs.declared.talk.TalkFault.TheVariants as talk_faults
@@ -24,10 +29,10 @@ use Rattle.tinkey_plans.specs.declared.status.Status.{Status}
 use Rattle.tinkey_plans.specs.declared.status.Status.TheVariants as status
 use Rattle.tinkey_plans.specs.Plan.{Plan, ends, writes, creates, looks, allocates, loads, reads_all, reads_front, ranges, draws, pumps, collects, exchanges, Told, Answer, answer, collect_answer, refused, stream_status, limit_status, talk_answer, load_answer, range_answer, create_answer, look_answer, draw_answer, IsStated}
 use Rattle.tinkey_plans.specs.Ends.{World, Ends, Settles, IsLasting, OnlyStreams, pump_status, OnlySource, OnlySink, OnlyStore, loaded, load_absent, load_long, load_failed, load_starved, ranged, range_absent, range_failed, range_starved, wrote, write_failed, made, name_taken, create_failed, create_starved, look_free, look_taken, look_failed, read, too_long, read_failed, read_starved, front_read, front_failed, settled, draw_failed, draw_starved, talk_status, sides_of, KeptDraft, collected, collect_refused, collect_unread, collect_unkept, exchanged, exchange_ended}
-use Rattle.tinkey_plans.specs.Promises.{Tells, IsAnswer, Answers, IsFront, Moved, nothing, IsPassLeft, pass_done, pass_refused, pass_unread, pass_unwritten, IsDraftLeft, draft_refused, draft_unread, draft_unkept, HasReplied, IsTalkLeft, talk_passed, talk_unread, talk_undrawn, talk_unwritten, talk_starved, then_moved, IsWhole, IsLeft, Leaves, IsTorn, Stands, Promised}
+use Rattle.tinkey_plans.specs.Promises.{AddsFront, AllStood, AsksOver, NoneUnsaved, SavesNothing, Stores, Tells, IsAnswer, Answers, IsFront, Moved, nothing, IsPassLeft, pass_done, pass_refused, pass_unread, pass_unwritten, IsDraftLeft, draft_refused, draft_unread, draft_unkept, HasReplied, IsTalkLeft, talk_passed, talk_unread, talk_undrawn, talk_unwritten, talk_starved, then_moved, IsWhole, IsLeft, Leaves, IsTorn, Stands, Promised}
 use Rattle.tinkey_plans.specs.FileRange.{Opened, FileRange, HoldsRange, range_in}
-use Rattle.tinkey_plans.proofs.GivenLemmas.{reads}
-use Rattle.tinkey_plans.proofs.FaultLemmas.{not_read_fault, not_write_fault, not_store_fault, not_entropy_fault, not_no_memory, refusal_stated, of_result, of_refusal, of_fault, of_limit, went, Went, has_cause, shows_faults, completes}
+use Rattle.tinkey_plans.proofs.GivenLemmas.{asks_over, reads}
+use Rattle.tinkey_plans.proofs.FaultLemmas.{not_read_fault, not_write_fault, not_store_fault, not_entropy_fault, not_no_memory, refusal_stated, of_result, of_refusal, of_fault, of_limit, rose_after, store_grows, went, Went, has_cause, shows_faults, completes}
 
 -- The stated answer.
 
@@ -244,7 +249,9 @@ refused_draft part next told taken refusal old s new is kept_draft tells decided
 
 -- the answer from a session on
 abbrev talk_on : (next : Keys → Plan) → Told → Talk → Answer
-talk_on next told x = talk_answer x.stop x told (answer (next x.keys) (record told { input = []; random = x.random }))
+talk_on next told x =
+    let saved = record told { files = files_after told.files x.asked } in
+    talk_answer x.stop x saved (answer (next x.keys) (record saved { input = []; random = x.random }))
 
 -- a session that is told random bytes behind those it uses
 with_more : (exchange : Exchange) (taken drawn rest : List ℕ) (ended : Bool) (stop : Stop) → IsSteady exchange → (exchange taken drawn ended).stop ≡ stop → (stop ≡ wants → ⊥) → (exchange taken drawn ended).random ≡ [] → exchange taken (drawn ++ rest) ended ≡ record (exchange taken drawn ended) { random = rest }
@@ -255,59 +262,80 @@ with_more exchange taken drawn rest ended stop steady stands never used =
 exchange_told : (exchange : Exchange) (told : Told) (input random : List ℕ) (x : Talk) → told.input ≡ input → told.random ≡ random → exchange input random true ≡ x → exchange told.input told.random true ≡ x
 exchange_told exchange told input random x one two is = ap (λ (l : List ℕ). exchange l told.random true) one ∙ ap (λ (l : List ℕ). exchange input l true) two ∙ is
 
--- behind a session that came to the end of its input, over what is told
-record IsTold (exchange : Exchange) (next : Keys → Plan) (keys : Keys) (out : List ℕ) (mid : World) (told : Told) : Type 0 where
-  rest : List ℕ
-  tells : Tells mid (record told { input = []; random = rest })
-  is : answer (exchanges exchange next) told ≡ (let later = answer (next keys) (record told { input = []; random = rest }) in record later { output = out ++ later.output })
+-- what is told where these files were asked for, and the input was taken
+abbrev told_after : Told → List FileAsked → (random : List ℕ) → Told
+told_after told asked random = record told { input = []; files = files_after told.files asked; random = random }
 
-is_told : (exchange : Exchange) (next : Keys → Plan) (keys : Keys) (old mid : World) (told : Told) (w : Went exchange keys (sides_of old) (sides_of mid)) → old.store ≡ mid.store → IsSteady exchange → Tells old told → IsTold exchange next keys (exchange w.taken w.drawn true).output mid told
-is_told exchange next keys old mid told w store steady tells =
-    let x = exchange w.taken w.drawn true in
+-- behind a session that came to the end of its input, over what is told
+record IsTold (exchange : StoreAnswers → Exchange) (next : Keys → Plan) (keys : Keys) (asked : List FileAsked) (out : List ℕ) (mid : World) (told : Told) : Type 0 where
+  rest : List ℕ
+  tells : Tells mid (told_after told asked rest)
+  is : answer (exchanges exchange next) told ≡ (let later = answer (next keys) (told_after told asked rest) in record later { output = out ++ later.output })
+
+is_told : (exchange : StoreAnswers → Exchange) (next : Keys → Plan) (keys : Keys) (asked : List FileAsked) (old mid : World) (told : Told) (w : Went (exchange (by_files told.files)) keys asked (sides_of old) (sides_of mid)) → mid.store.files ≡ Some (files_after told.files asked) → IsSteady (exchange (by_files told.files)) → Tells old told
+    → IsTold exchange next keys asked (exchange (by_files told.files) w.taken w.drawn true).output mid told
+is_told exchange next keys asked old mid told w files steady tells =
+    let session = exchange (by_files told.files) in
+    let x = session w.taken w.drawn true in
     let whole = whole_input old.source mid.source told.input w.taken tells.input w.has.gave (w.has.end refl) in
     let split = split_told mid.entropy.left old.entropy.left told.random w.drawn tells.random w.has.drew.left in
-    let same : exchange told.input told.random true ≡ record x { random = split.0 } = exchange_told exchange told w.taken (w.drawn ++ split.0) _ whole.1 split.2 (with_more exchange w.taken w.drawn split.0 true goes steady w.has.stands (λ h. absurd (cc)) w.has.used) in
+    let same : session told.input told.random true ≡ record x { random = split.0 } = exchange_told session told w.taken (w.drawn ++ split.0) _ whole.1 split.2 (with_more session w.taken w.drawn split.0 true goes steady w.has.stands (λ h. absurd (cc)) w.has.used) in
     record {
       rest = split.0;
-      tells = record { input = whole.0; files = files_told old mid told tells store; random = split.1 };
+      tells = record { input = whole.0; files = files; random = split.1 };
       is = ap (λ (y : Talk). talk_on next told y) same
-          ∙ ap (λ (stop : Stop). talk_answer stop (record x { random = split.0 }) told (answer (next x.keys) (record told { input = []; random = split.0 }))) w.has.stands
-          ∙ ap (λ (k : Keys). let later = answer (next k) (record told { input = []; random = split.0 }) in record later { output = x.output ++ later.output }) (sym w.last);
+          ∙ ap (λ (stop : Stop). talk_answer stop (record x { random = split.0 }) (record told { files = files_after told.files x.asked }) (answer (next x.keys) (told_after told x.asked split.0))) w.has.stands
+          ∙ ap (λ (k : Keys). let later = answer (next k) (told_after told x.asked split.0) in record later { output = x.output ++ later.output }) (sym w.last)
+          ∙ ap (λ (l : List FileAsked). let later = answer (next keys) (told_after told l split.0) in record later { output = x.output ++ later.output }) w.files;
     }
 
 -- a session past a limit, over what is told
-passed_talk : (exchange : Exchange) (next : Keys → Plan) (limit : Limit) (taken drawn : List ℕ) (told : Told) (old : World) (s : Status) (new : World) → s ≡ limit_status limit → HasTalked Drew exchange taken drawn false (passes limit) (sides_of old) (sides_of new) → old.store ≡ new.store → IsSteady exchange → Tells old told → IsAnswer (answer (exchanges exchange next) told) old s new
-passed_talk exchange next limit taken drawn told old s new is has store steady tells =
-    let x = exchange taken drawn false in
+passed_talk : (exchange : StoreAnswers → Exchange) (next : Keys → Plan) (limit : Limit) (taken drawn : List ℕ) (asked : List FileAsked) (told : Told) (old : World) (s : Status) (new : World) → s ≡ limit_status limit → HasTalked Drew (exchange (by_files told.files)) taken drawn false (passes limit) (sides_of old) (sides_of new)
+    → (exchange (by_files told.files) taken drawn false).asked ≡ asked → new.store.files ≡ Some (files_after told.files asked) → IsSteady (exchange (by_files told.files)) → Tells old told → IsAnswer (answer (exchanges exchange next) told) old s new
+passed_talk exchange next limit taken drawn asked told old s new is has same_asked files steady tells =
+    let session = exchange (by_files told.files) in
+    let x = session taken drawn false in
     let input = split_told new.source.left old.source.left told.input taken tells.input has.gave.left in
     let random = split_told new.entropy.left old.entropy.left told.random drawn tells.random has.drew.left in
-    let more = with_more exchange taken drawn random.0 false (passes limit) steady has.stands (λ h. absurd (cc)) has.used in
+    let more = with_more session taken drawn random.0 false (passes limit) steady has.stands (λ h. absurd (cc)) has.used in
     let lasts = steady.lasts taken input.0 (drawn ++ random.0) limit (ap (λ (y : Talk). y.stop) more ∙ has.stands) in
-    let same : exchange told.input told.random true ≡ record x { random = random.0 } = exchange_told exchange told (taken ++ input.0) (drawn ++ random.0) _ input.2 random.2 (lasts ∙ more) in
-    let e : answer (exchanges exchange next) told ≡ record (refused told (limit_status limit)) { input = None; output = x.output; random = random.0 } =
+    let same : session told.input told.random true ≡ record x { random = random.0 } = exchange_told session told (taken ++ input.0) (drawn ++ random.0) _ input.2 random.2 (lasts ∙ more) in
+    let saved : Told = record told { files = files_after told.files x.asked } in
+    let e : answer (exchanges exchange next) told ≡ record (refused saved (limit_status limit)) { input = None; output = x.output; random = random.0 } =
     ap (λ (y : Talk). talk_on next told y) same
-    ∙ ap (λ (stop : Stop). talk_answer stop (record x { random = random.0 }) told (answer (next x.keys) (record told { input = []; random = random.0 }))) has.stands in
-    subst (λ (a : Answer). IsAnswer a old s new) (sym e) (record { status = is; input = tt; output = has.took; files = files_told old new told tells store; random = random.1 })
+    ∙ ap (λ (stop : Stop). talk_answer stop (record x { random = random.0 }) saved (answer (next x.keys) (record saved { input = []; random = random.0 }))) has.stands in
+    subst (λ (a : Answer). IsAnswer a old s new) (sym e) (record { status = is; input = tt; output = has.took; files = files ∙ ap (λ (l : List FileAsked). Some (files_after told.files l)) (sym same_asked); random = random.1 })
 
-talk_answers : (exchange : Exchange) (next : Keys → Plan) (fault : TalkFault) (told : Told) (old : World) (s : Status) (new : World) → s ≡ talk_status fault → Talks exchange (Err fault) (sides_of old) (sides_of new) → old.store ≡ new.store → IsSteady exchange → Tells old told → IsStated s → IsAnswer (answer (exchanges exchange next) told) old s new
-talk_answers exchange next fault told old s new is (talks.talked taken drawn r has none) store steady tells ok = absurd (cc)
-talk_answers exchange next fault told old s new is (talks.passed taken drawn limit r has none) store steady tells ok = passed_talk exchange next limit taken drawn told old s new (of_limit s fault limit is r) has store steady tells
-talk_answers exchange next fault told old s new is (talks.unread taken drawn r has rose sink entropy) store steady tells ok = absurd (not_read_fault s ok (of_fault s fault talk_faults.ReadFault is r))
-talk_answers exchange next fault told old s new is (talks.undrawn taken drawn ended r has rose source sink) store steady tells ok = absurd (not_entropy_fault s ok (of_fault s fault talk_faults.EntropyFault is r))
-talk_answers exchange next fault told old s new is (talks.unwritten taken drawn ended r gave drew front end rose source entropy) store steady tells ok = absurd (not_write_fault s ok (of_fault s fault talk_faults.WriteFault is r))
-talk_answers exchange next fault told old s new is (talks.starved taken more drawn part r gave drew took stop none) store steady tells ok = absurd (not_no_memory s ok (of_fault s fault talk_faults.NoMemory is r))
+talk_answers : (exchange : StoreAnswers → Exchange) (next : Keys → Plan) (fault : TalkFault) (asked : List FileAsked) (told : Told) (old : World) (s : Status) (new : World) → s ≡ talk_status fault → (so : Talks (exchange (by_files told.files)) (Err fault) (sides_of old) (sides_of new)) → HasAsked (exchange (by_files told.files)) (Err fault) (sides_of old) (sides_of new) asked so
+    → new.store.files ≡ Some (files_after told.files asked) → IsSteady (exchange (by_files told.files)) → Tells old told → IsStated s → IsAnswer (answer (exchanges exchange next) told) old s new
+talk_answers exchange next fault asked told old s new is (talks.talked taken drawn r has none) e files steady tells ok = absurd (cc)
+talk_answers exchange next fault asked told old s new is (talks.passed taken drawn limit r has none) e files steady tells ok = passed_talk exchange next limit taken drawn asked told old s new (of_limit s fault limit is r) has e files steady tells
+talk_answers exchange next fault asked told old s new is (talks.unread taken drawn r has rose sink entropy) e files steady tells ok = absurd (not_read_fault s ok (of_fault s fault talk_faults.ReadFault is r))
+talk_answers exchange next fault asked told old s new is (talks.undrawn taken drawn ended r has rose source sink) e files steady tells ok = absurd (not_entropy_fault s ok (of_fault s fault talk_faults.EntropyFault is r))
+talk_answers exchange next fault asked told old s new is (talks.unwritten taken drawn ended r gave drew front end rose source entropy) e files steady tells ok = absurd (not_write_fault s ok (of_fault s fault talk_faults.WriteFault is r))
+talk_answers exchange next fault asked told old s new is (talks.starved taken more drawn part r gave drew took stop none) e files steady tells ok = absurd (not_no_memory s ok (of_fault s fault talk_faults.NoMemory is r))
 
-answers_over : (p : Plan) (old : World) (s : Status) (new : World) → Ends p old s new → (told : Told) → Tells old told → IsStated s → IsAnswer (answer p told) old s new
-answers_over (ends answered stated) old s new (is, same) told tells ok = used_none told answered s old new is tells same
-answers_over (writes output) old s new (wrote is only stood took) told tells ok = record {
+-- where no store fault is told by a reply alone, none is in what comes later
+later_none : (P Q : Type 0) → (P → Q) → (a b c : ℕ) → a ≤ b → P ⊎ (Rose a c → ⊥) → Q ⊎ (Rose b c → ⊥)
+later_none P Q quiet a b c le (inl saves) = inl (quiet saves)
+later_none P Q quiet a b c le (inr never) = inr (λ rose. never (rose_after a b c le rose))
+
+-- a session in which the store didn't fail
+never_rose : (A : Type 0) → ⊥ ⊎ (A → ⊥) → A → ⊥
+never_rose A (inl none) rose = none
+never_rose A (inr never) rose = never rose
+
+answers_over : (p : Plan) (old : World) (s : Status) (new : World) → Ends p old s new → (told : Told) → Tells old told → IsStated s → NoneUnsaved p old new → IsAnswer (answer p told) old s new
+answers_over (ends answered stated) old s new (is, same) told tells ok still = used_none told answered s old new is tells same
+answers_over (writes output) old s new (wrote is only stood took) told tells ok still = record {
   status = is;
   input = input_told old new told tells only.source;
   output = took;
   files = files_told old new told tells only.store;
   random = random_told old new told tells only.entropy;
 }
-answers_over (writes output) old s new (write_failed is only rose front) told tells ok = absurd (not_write_fault s ok is)
-answers_over (creates name output taken stated) old s new (made is only stood given added) told tells ok =
+answers_over (writes output) old s new (write_failed is only rose front) told tells ok still = absurd (not_write_fault s ok is)
+answers_over (creates name output taken stated) old s new (made is only stood given added) told tells ok still =
     subst (λ (a : Answer). IsAnswer a old s new) (sym (made_answer _ told name output _ (file_told old.store told.files name None tells.files added.absent))) (record {
       status = is;
       input = input_told old new told tells only.source;
@@ -315,47 +343,47 @@ answers_over (creates name output taken stated) old s new (made is only stood gi
       files = added_told old.store new.store told.files name output tells.files added;
       random = random_told old new told tells only.entropy;
     })
-answers_over (creates name output taken stated) old s new (name_taken is only kept stood given there) told tells ok =
+answers_over (creates name output taken stated) old s new (name_taken is only kept stood given there) told tells ok still =
     let found = some_told old.store told.files name tells.files there in
     subst (λ (a : Answer). IsAnswer a old s new) (sym (taken_answer _ found.0 told name output _ found.1)) (refused_is told taken s old new is tells only kept)
-answers_over (creates name output taken stated) old s new (create_failed is only rose given may) told tells ok = absurd (not_store_fault s ok is)
-answers_over (creates name output taken stated) old s new (create_starved is only kept stood given) told tells ok = absurd (not_no_memory s ok is)
-answers_over (looks name taken stated next) old s new (look_free store kept stood given holds run) told tells ok =
-    let later = answers_over next (record old { store = store }) s new run told (record { input = tells.input; files = sym kept.files ∙ tells.files; random = tells.random }) ok in
+answers_over (creates name output taken stated) old s new (create_failed is only rose given may) told tells ok still = absurd (not_store_fault s ok is)
+answers_over (creates name output taken stated) old s new (create_starved is only kept stood given) told tells ok still = absurd (not_no_memory s ok is)
+answers_over (looks name taken stated next) old s new (look_free store kept stood given holds run) told tells ok still =
+    let later = answers_over next (record old { store = store }) s new run told (record { input = tells.input; files = sym kept.files ∙ tells.files; random = tells.random }) ok (later_none _ _ (λ saves. saves) _ _ _ kept.faults still) in
     subst (λ (a : Answer). IsAnswer a old s new) (sym (free_answer _ _ _ (file_told old.store told.files name None tells.files holds)))
     (record { status = later.status; input = later.input; output = later.output; files = later.files; random = later.random })
-answers_over (looks name taken stated next) old s new (look_taken is only kept stood given there) told tells ok =
+answers_over (looks name taken stated next) old s new (look_taken is only kept stood given there) told tells ok still =
     let found = some_told old.store told.files name tells.files there in
     subst (λ (a : Answer). IsAnswer a old s new) (sym (found_answer _ found.0 _ _ found.1)) (refused_is told taken s old new is tells only kept)
-answers_over (looks name taken stated next) old s new (look_failed is only kept rose given) told tells ok = absurd (not_store_fault s ok is)
-answers_over (allocates next) old s new (inl run) told tells ok = answers_over next old s new run told tells ok
-answers_over (allocates next) old s new (inr (is, same)) told tells ok = absurd (not_no_memory s ok is)
-answers_over (loads name limit absent long a l next) old s new (loaded bytes store kept stood given within holds run) told tells ok =
-    let later = answers_over (next bytes) (record old { store = store }) s new run told (record { input = tells.input; files = sym kept.files ∙ tells.files; random = tells.random }) ok in
+answers_over (looks name taken stated next) old s new (look_failed is only kept rose given) told tells ok still = absurd (not_store_fault s ok is)
+answers_over (allocates next) old s new (inl run) told tells ok still = answers_over next old s new run told tells ok still
+answers_over (allocates next) old s new (inr (is, same)) told tells ok still = absurd (not_no_memory s ok is)
+answers_over (loads name limit absent long a l next) old s new (loaded bytes store kept stood given within holds run) told tells ok still =
+    let later = answers_over (next bytes) (record old { store = store }) s new run told (record { input = tells.input; files = sym kept.files ∙ tells.files; random = tells.random }) ok (later_none _ _ (λ saves. saves bytes) _ _ _ kept.faults still) in
     subst (λ (a : Answer). IsAnswer a old s new) (sym (loaded_answer _ bytes limit _ _ _ (file_told old.store told.files name (Some bytes) tells.files holds) within))
     (record { status = later.status; input = later.input; output = later.output; files = later.files; random = later.random })
-answers_over (loads name limit absent long a l next) old s new (load_absent is only kept stood given holds) told tells ok =
+answers_over (loads name limit absent long a l next) old s new (load_absent is only kept stood given holds) told tells ok still =
     subst (λ (a : Answer). IsAnswer a old s new) (sym (absent_answer _ limit _ _ _ (file_told old.store told.files name None tells.files holds))) (refused_is told absent s old new is tells only kept)
-answers_over (loads name limit absent long a l next) old s new (load_long is only kept stood given holds) told tells ok =
+answers_over (loads name limit absent long a l next) old s new (load_long is only kept stood given holds) told tells ok still =
     let longer = longer_told old.store told.files name limit tells.files holds in
     subst (λ (a : Answer). IsAnswer a old s new) (sym (long_loaded _ longer.0 limit _ _ _ longer.1 longer.2)) (refused_is told long s old new is tells only kept)
-answers_over (loads name limit absent long a l next) old s new (load_failed is only kept rose given) told tells ok = absurd (not_store_fault s ok is)
-answers_over (loads name limit absent long a l next) old s new (load_starved is only kept stood given) told tells ok = absurd (not_no_memory s ok is)
-answers_over (ranges x absent a next) old s new (ranged opened store most kept stood given least past holds run) told tells ok =
-    let later = answers_over (next opened) (record old { store = store }) s new run told (record { input = tells.input; files = sym kept.files ∙ tells.files; random = tells.random }) ok in
+answers_over (loads name limit absent long a l next) old s new (load_failed is only kept rose given) told tells ok still = absurd (not_store_fault s ok is)
+answers_over (loads name limit absent long a l next) old s new (load_starved is only kept stood given) told tells ok still = absurd (not_no_memory s ok is)
+answers_over (ranges x absent a next) old s new (ranged opened store most kept stood given least past holds run) told tells ok still =
+    let later = answers_over (next opened) (record old { store = store }) s new run told (record { input = tells.input; files = sym kept.files ∙ tells.files; random = tells.random }) ok (later_none _ _ (λ saves. saves opened) _ _ _ kept.faults still) in
     let found = range_told old.store told.files x opened tells.files holds in
     subst (λ (a : Answer). IsAnswer a old s new) (sym (opened_answer _ found.0 x opened _ _ found.1 found.2))
     (record { status = later.status; input = later.input; output = later.output; files = later.files; random = later.random })
-answers_over (ranges x absent a next) old s new (range_absent is only kept stood given holds) told tells ok =
+answers_over (ranges x absent a next) old s new (range_absent is only kept stood given holds) told tells ok still =
     subst (λ (a : Answer). IsAnswer a old s new) (sym (unfound_answer _ x _ _ (file_told old.store told.files x.name None tells.files holds))) (refused_is told absent s old new is tells only kept)
-answers_over (ranges x absent a next) old s new (range_failed most is only kept rose given least) told tells ok = absurd (not_store_fault s ok is)
-answers_over (ranges x absent a next) old s new (range_starved most is only kept stood given least) told tells ok = absurd (not_no_memory s ok is)
-answers_over (reads_all limit long stated next) old s new (read all source gave stood within end run) told tells ok =
+answers_over (ranges x absent a next) old s new (range_failed most is only kept rose given least) told tells ok still = absurd (not_store_fault s ok is)
+answers_over (ranges x absent a next) old s new (range_starved most is only kept stood given least) told tells ok still = absurd (not_no_memory s ok is)
+answers_over (reads_all limit long stated next) old s new (read all source gave stood within end run) told tells ok still =
     let whole = whole_input old.source source told.input all tells.input gave end in
-    let later = answers_over (next all) (record old { source = source }) s new run (record told { input = [] }) (record { input = whole.0; files = tells.files; random = tells.random }) ok in
+    let later = answers_over (next all) (record old { source = source }) s new run (record told { input = [] }) (record { input = whole.0; files = tells.files; random = tells.random }) ok (later_none _ _ (λ saves. saves all) _ _ _ (omega arith) still) in
     subst (λ (a : Answer). IsAnswer a old s new) (sym (read_answer limit long stated next told all whole.1 within))
     (record { status = later.status; input = later.input; output = later.output; files = later.files; random = later.random })
-answers_over (reads_all limit long stated next) old s new (too_long is only stood count) told tells ok =
+answers_over (reads_all limit long stated next) old s new (too_long is only stood count) told tells ok still =
     let after = after_count old.source new.source told.input (limit + 1) tells.input count in
     subst (λ (a : Answer). IsAnswer a old s new) (sym (long_answer limit long stated next told (omega (arith, after.0)))) (record {
       status = is;
@@ -364,42 +392,47 @@ answers_over (reads_all limit long stated next) old s new (too_long is only stoo
       files = files_told old new told tells only.store;
       random = random_told old new told tells only.entropy;
     })
-answers_over (reads_all limit long stated next) old s new (read_failed is only rose upto) told tells ok = absurd (not_read_fault s ok is)
-answers_over (reads_all limit long stated next) old s new (read_starved is only stood upto) told tells ok = absurd (not_no_memory s ok is)
-answers_over (reads_front size next) old s new (front_read front source gave stood within end run) told tells ok =
+answers_over (reads_all limit long stated next) old s new (read_failed is only rose upto) told tells ok still = absurd (not_read_fault s ok is)
+answers_over (reads_all limit long stated next) old s new (read_starved is only stood upto) told tells ok still = absurd (not_no_memory s ok is)
+answers_over (reads_front size next) old s new (front_read front source gave stood within end run) told tells ok still =
     let split = front_input old.source source told.input front size tells.input gave within end in
-    let later = answers_over (next front) (record old { source = source }) s new run (record told { input = drop size told.input }) (record { input = split.0; files = tells.files; random = tells.random }) ok in
+    let later = answers_over (next front) (record old { source = source }) s new run (record told { input = drop size told.input }) (record { input = split.0; files = tells.files; random = tells.random }) ok (later_none _ _ (λ saves. saves front) _ _ _ (omega arith) still) in
     subst (λ (a : Answer). IsAnswer a old s new) (sym (front_answer size next told front split.1))
     (record { status = later.status; input = later.input; output = later.output; files = later.files; random = later.random })
-answers_over (reads_front size next) old s new (front_failed piece is only rose gave few) told tells ok = absurd (not_read_fault s ok is)
-answers_over (draws kind give next) old s new (settled drawn entropy given drew stood settles run) told tells ok =
+answers_over (reads_front size next) old s new (front_failed piece is only rose gave few) told tells ok still = absurd (not_read_fault s ok is)
+answers_over (draws kind give next) old s new (settled drawn entropy given drew stood settles run) told tells ok still =
     let split = split_told entropy.left old.entropy.left told.random drawn tells.random drew.left in
-    let later = answers_over (next given) (record old { entropy = entropy }) s new run (record told { random = split.0 }) (record { input = tells.input; files = tells.files; random = split.1 }) ok in
+    let later = answers_over (next given) (record old { entropy = entropy }) s new run (record told { random = split.0 }) (record { input = tells.input; files = tells.files; random = split.1 }) ok (later_none _ _ (λ saves. saves given) _ _ _ (omega arith) still) in
     subst (λ (a : Answer). IsAnswer a old s new) (sym (settled_answer give drawn split.0 told.random given _ (λ x. answer (next x.answer) (record told { random = x.left })) settles split.2))
     (record { status = later.status; input = later.input; output = later.output; files = later.files; random = later.random })
-answers_over (draws kind give next) old s new (draw_failed is only out) told tells ok = absurd (not_entropy_fault s ok is)
-answers_over (draws kind give next) old s new (draw_starved parts is only drawn drew stood none) told tells ok = absurd (not_no_memory s ok is)
-answers_over (pumps part) old s new e told tells ok = pump_answers part e.result old s new e.lasting e.status e.only e.pass told tells ok
-answers_over (collects part next) old s new (collected all source store gave stood kept quiet given end none run) told tells ok =
+answers_over (draws kind give next) old s new (draw_failed is only out) told tells ok still = absurd (not_entropy_fault s ok is)
+answers_over (draws kind give next) old s new (draw_starved parts is only drawn drew stood none) told tells ok still = absurd (not_no_memory s ok is)
+answers_over (pumps part) old s new e told tells ok still = pump_answers part e.result old s new e.lasting e.status e.only e.pass told tells ok
+answers_over (collects part next) old s new (collected all source store gave stood kept quiet given end none run) told tells ok still =
     let whole = whole_input old.source source told.input all tells.input gave end in
-    let later = answers_over (next (part.output all true)) (record old { source = source; store = store }) s new run (record told { input = [] }) (record { input = whole.0; files = sym kept.files ∙ tells.files; random = tells.random }) ok in
+    let later = answers_over (next (part.output all true)) (record old { source = source; store = store }) s new run (record told { input = [] }) (record { input = whole.0; files = sym kept.files ∙ tells.files; random = tells.random }) ok (later_none _ _ (λ saves. saves (part.output all true)) _ _ _ kept.faults still) in
     subst (λ (a : Answer). IsAnswer a old s new) (sym (collected_answer part next told all whole.1 none))
     (record { status = later.status; input = later.input; output = later.output; files = later.files; random = later.random })
-answers_over (collects part next) old s new (collect_refused taken true refusal is kept_draft stood quiet end decided lasting) told tells ok =
+answers_over (collects part next) old s new (collect_refused taken true refusal is kept_draft stood quiet end decided lasting) told tells ok still =
     let whole = whole_input old.source new.source told.input taken tells.input kept_draft.gave (end refl) in
     refused_draft part next told taken refusal old s new is kept_draft tells (ap (λ (l : List ℕ). part.refusal l true) whole.1 ∙ decided)
-answers_over (collects part next) old s new (collect_refused taken false refusal is kept_draft stood quiet end decided lasting) told tells ok =
+answers_over (collects part next) old s new (collect_refused taken false refusal is kept_draft stood quiet end decided lasting) told tells ok still =
     let split = split_told new.source.left old.source.left told.input taken tells.input kept_draft.gave.left in
     refused_draft part next told taken refusal old s new is kept_draft tells (ap (λ (l : List ℕ). part.refusal l true) split.2 ∙ (lasting.stays taken split.0 refusal decided).0)
-answers_over (collects part next) old s new (collect_unread taken is kept_draft rose quiet undecided) told tells ok = absurd (not_read_fault s ok is)
-answers_over (collects part next) old s new (collect_unkept taken ended is kept_draft stood rose some) told tells ok = absurd (not_store_fault s ok is)
-answers_over (exchanges exchange next) old s new (exchanged keys mid talk store steady run) told tells ok =
-    let w = went exchange keys (sides_of old) (sides_of mid) talk in
-    let after = is_told exchange next keys old mid told w store steady tells in
-    let later = answers_over (next keys) mid s new run (record told { input = []; random = after.rest }) after.tells ok in
+answers_over (collects part next) old s new (collect_unread taken is kept_draft rose quiet undecided) told tells ok still = absurd (not_read_fault s ok is)
+answers_over (collects part next) old s new (collect_unkept taken ended is kept_draft stood rose some) told tells ok still = absurd (not_store_fault s ok is)
+answers_over (exchanges exchange next) old s new (exchanged keys mid talk steady run) told tells ok still =
+    let le = store_grows (next keys) mid s new run in
+    let never : Rose old.store.faults mid.store.faults → ⊥ = λ rose. never_rose _ still (rose_on _ _ _ (asks_faults talk.asked old.store mid.store talk.asks) le rose) in
+    let so = saves_are_told exchange (Ok keys) (sides_of old) (sides_of mid) old.store mid.store told.files tells.files never talk in
+    let w = went (exchange (by_files told.files)) keys so.0 (sides_of old) (sides_of mid) so.1 so.2 in
+    let after = is_told exchange next keys so.0 old mid told w so.3 (steady (by_files told.files)) tells in
+    let later = answers_over (next keys) mid s new run (told_after told so.0 after.rest) after.tells ok (inr (λ rose. never_rose _ still (rose_after _ _ _ (asks_faults talk.asked old.store mid.store talk.asks) rose))) in
     subst (λ (a : Answer). IsAnswer a old s new) (sym after.is)
     (record { status = later.status; input = later.input; output = took_more _ _ _ _ _ w.has.took later.output; files = later.files; random = later.random })
-answers_over (exchanges exchange next) old s new (exchange_ended fault is talk store steady) told tells ok = talk_answers exchange next fault told old s new is talk store steady tells ok
+answers_over (exchanges exchange next) old s new (exchange_ended fault is talk steady) told tells ok still =
+    let so = saves_are_told exchange (Err fault) (sides_of old) (sides_of new) old.store new.store told.files tells.files (never_rose _ still) talk in
+    talk_answers exchange next fault so.0 told old s new is so.1 so.2 so.3 (steady (by_files told.files)) tells ok
 
 pub answers : (p : Plan) (old : World) (s : Status) (new : World) → Ends p old s new → Answers p old s new
 answers p old s new run = record { over = answers_over p old s new run }
@@ -408,7 +441,7 @@ answers p old s new run = record { over = answers_over p old s new run }
 
 -- a sink and files that are as before, at a status that isn't the write fault
 untouched : (p : Plan) (old : World) (s : Status) (new : World) → (s ≡ status.WriteFault → ⊥) → old.sink ≡ new.sink → KeptFiles old.store new.store → Stands p old s new
-untouched p old s new other same files = record { files = λ done fault. files; torn = λ h. inl files; kept = λ whole done fault. took_same old.sink new.sink same; front = λ whole h. absurd (other h); last = λ whole h. absurd (other h) }
+untouched p old s new other same files = record { files = λ saves done fault. files; torn = λ saves h. inl files; kept = λ whole done fault. took_same old.sink new.sink same; front = λ whole h. absurd (other h); last = λ whole h. absurd (other h) }
 
 -- a file that is new after a step that kept all files
 added_later : (old mid new : StoreState) (name bytes : List ℕ) → KeptFiles old mid → AddedFront mid new name bytes → AddedFront old new name bytes
@@ -443,10 +476,10 @@ torn_behind p rest old mid new kept ahead (inr t) = inr (record {
 })
 
 -- what stands behind a step that has used this object alone, where the answer goes on so
-goes_on : (p rest : Plan) (old mid : World) (s : Status) (new : World) → (IsWhole p → IsWhole rest) → KeptFiles old.store mid.store → old.sink ≡ mid.sink → ((told : Told) → Tells old told → (later : Told) × Tells mid later × (later.files ≡ told.files) × (answer p told ≡ answer rest later)) → Stands rest mid s new → Stands p old s new
-goes_on p rest old mid s new still kept sink ahead later = record {
-  files = λ done fault. kept_twice _ _ _ kept (later.files done fault);
-  torn = λ h. torn_behind p rest old mid new kept (λ told tells. let a = ahead told tells in record { later = a.0; tells = a.1; same = a.2; status = ap (λ (r : Answer). r.status) a.3; files = ap (λ (r : Answer). r.files) a.3 }) (later.torn h);
+goes_on : (p rest : Plan) (old mid : World) (s : Status) (new : World) → (IsWhole p → IsWhole rest) → (SavesNothing p → SavesNothing rest) → KeptFiles old.store mid.store → old.sink ≡ mid.sink → ((told : Told) → Tells old told → (later : Told) × Tells mid later × (later.files ≡ told.files) × (answer p told ≡ answer rest later)) → Stands rest mid s new → Stands p old s new
+goes_on p rest old mid s new still quiet kept sink ahead later = record {
+  files = λ saves done fault. kept_twice _ _ _ kept (later.files (quiet saves) done fault);
+  torn = λ saves h. torn_behind p rest old mid new kept (λ told tells. let a = ahead told tells in record { later = a.0; tells = a.1; same = a.2; status = ap (λ (r : Answer). r.status) a.3; files = ap (λ (r : Answer). r.files) a.3 }) (later.torn (quiet saves) h);
   kept = λ whole done fault. subst (λ (x : SinkState). Took x new.sink []) (sym sink) (later.kept (still whole) done fault);
   front = λ whole h told tells. let a = ahead told tells in
       subst (λ (x : SinkState). TookPrefix x new.sink (answer p told).output) (sym sink)
@@ -470,32 +503,32 @@ torn_file name output taken stated old new (inr front) = inr (record {
 
 pub stands : (p : Plan) (old : World) (s : Status) (new : World) → Ends p old s new → Stands p old s new
 stands (ends answered stated) old s new (is, same) = untouched (ends answered stated) old s new (λ h. not_write_fault answered stated (sym is ∙ h)) (ap (λ (w : World). w.sink) same) (same_files _ _ (ap (λ (w : World). w.store) same))
-stands (writes output) old s new (wrote is only stood took) = record { files = λ done fault. same_files _ _ only.store; torn = λ h. inl (same_files _ _ only.store); kept = λ whole done fault. absurd (done is); front = λ whole h. absurd (cc); last = λ whole h. absurd (cc) }
-stands (writes output) old s new (write_failed is only rose front) = record { files = λ done fault. same_files _ _ only.store; torn = λ h. inl (same_files _ _ only.store); kept = λ whole done fault. absurd (fault is); front = λ whole h told tells. front; last = λ whole h told tells. refl }
-stands (creates name output taken stated) old s new (made is only stood given added) = record { files = λ done fault. absurd (done is); torn = λ h. absurd (cc); kept = λ whole done fault. absurd (done is); front = λ whole h. absurd (cc); last = λ whole h. absurd (cc) }
+stands (writes output) old s new (wrote is only stood took) = record { files = λ saves done fault. same_files _ _ only.store; torn = λ saves h. inl (same_files _ _ only.store); kept = λ whole done fault. absurd (done is); front = λ whole h. absurd (cc); last = λ whole h. absurd (cc) }
+stands (writes output) old s new (write_failed is only rose front) = record { files = λ saves done fault. same_files _ _ only.store; torn = λ saves h. inl (same_files _ _ only.store); kept = λ whole done fault. absurd (fault is); front = λ whole h told tells. front; last = λ whole h told tells. refl }
+stands (creates name output taken stated) old s new (made is only stood given added) = record { files = λ saves done fault. absurd (done is); torn = λ saves h. absurd (cc); kept = λ whole done fault. absurd (done is); front = λ whole h. absurd (cc); last = λ whole h. absurd (cc) }
 stands (creates name output taken stated) old s new (name_taken is only kept stood given there) = untouched (creates name output taken stated) old s new (λ h. not_write_fault taken stated (sym is ∙ h)) only.sink kept
 stands (creates name output taken stated) old s new (create_failed is only rose given may) = record {
-  files = λ done fault. absurd (fault is);
-  torn = λ h. torn_file name output taken stated old new may;
+  files = λ saves done fault. absurd (fault is);
+  torn = λ saves h. torn_file name output taken stated old new may;
   kept = λ whole done fault. took_same old.sink new.sink only.sink;
   front = λ whole h. absurd (cc);
   last = λ whole h. absurd (cc);
 }
 stands (creates name output taken stated) old s new (create_starved is only kept stood given) = untouched (creates name output taken stated) old s new (λ h. absurd (cc)) only.sink kept
 stands (looks name taken stated next) old s new (look_free store kept stood given holds run) =
-    goes_on (looks name taken stated next) next old (record old { store = store }) s new (λ whole. whole) kept refl
+    goes_on (looks name taken stated next) next old (record old { store = store }) s new (λ whole. whole) (λ saves. saves) kept refl
     (λ told tells. (told, record { input = tells.input; files = sym kept.files ∙ tells.files; random = tells.random }, refl, free_answer _ _ _ (file_told old.store told.files name None tells.files holds)))
     (stands next (record old { store = store }) s new run)
 stands (looks name taken stated next) old s new (look_taken is only kept stood given there) = untouched (looks name taken stated next) old s new (λ h. not_write_fault taken stated (sym is ∙ h)) only.sink kept
 stands (looks name taken stated next) old s new (look_failed is only kept rose given) = untouched (looks name taken stated next) old s new (λ h. absurd (cc)) only.sink kept
-stands (allocates next) old s new (inl run) = let later = stands next old s new run in record { files = later.files; torn = λ h. torn_later (later.torn h); kept = later.kept; front = later.front; last = later.last }
+stands (allocates next) old s new (inl run) = let later = stands next old s new run in record { files = later.files; torn = λ saves h. torn_later (later.torn saves h); kept = later.kept; front = later.front; last = later.last }
   where
     torn_later : KeptFiles old.store new.store ⊎ IsTorn next old new → KeptFiles old.store new.store ⊎ IsTorn (allocates next) old new
     torn_later (inl files) = inl files
     torn_later (inr t) = inr (record { name = t.name; bytes = t.bytes; added = t.added; answered = t.answered; files = t.files })
 stands (allocates next) old s new (inr (is, same)) = untouched (allocates next) old s new (λ h. absurd (cc)) (ap (λ (w : World). w.sink) same) (same_files _ _ (ap (λ (w : World). w.store) same))
 stands (loads name limit absent long a l next) old s new (loaded bytes store kept stood given within holds run) =
-    goes_on (loads name limit absent long a l next) (next bytes) old (record old { store = store }) s new (λ whole. whole bytes) kept refl
+    goes_on (loads name limit absent long a l next) (next bytes) old (record old { store = store }) s new (λ whole. whole bytes) (λ saves. saves bytes) kept refl
     (λ told tells. (told, record { input = tells.input; files = sym kept.files ∙ tells.files; random = tells.random }, refl, loaded_answer _ bytes limit _ _ _ (file_told old.store told.files name (Some bytes) tells.files holds) within))
     (stands (next bytes) (record old { store = store }) s new run)
 stands (loads name limit absent long a l next) old s new (load_absent is only kept stood given holds) = untouched (loads name limit absent long a l next) old s new (λ h. not_write_fault absent a (sym is ∙ h)) only.sink kept
@@ -503,7 +536,7 @@ stands (loads name limit absent long a l next) old s new (load_long is only kept
 stands (loads name limit absent long a l next) old s new (load_failed is only kept rose given) = untouched (loads name limit absent long a l next) old s new (λ h. absurd (cc)) only.sink kept
 stands (loads name limit absent long a l next) old s new (load_starved is only kept stood given) = untouched (loads name limit absent long a l next) old s new (λ h. absurd (cc)) only.sink kept
 stands (ranges x absent a next) old s new (ranged opened store most kept stood given least past holds run) =
-    goes_on (ranges x absent a next) (next opened) old (record old { store = store }) s new (λ whole. whole opened) kept refl
+    goes_on (ranges x absent a next) (next opened) old (record old { store = store }) s new (λ whole. whole opened) (λ saves. saves opened) kept refl
     (λ told tells. let found = range_told old.store told.files x opened tells.files holds in
     (told, record { input = tells.input; files = sym kept.files ∙ tells.files; random = tells.random }, refl, opened_answer _ found.0 x opened _ _ found.1 found.2))
     (stands (next opened) (record old { store = store }) s new run)
@@ -511,7 +544,7 @@ stands (ranges x absent a next) old s new (range_absent is only kept stood given
 stands (ranges x absent a next) old s new (range_failed most is only kept rose given least) = untouched (ranges x absent a next) old s new (λ h. absurd (cc)) only.sink kept
 stands (ranges x absent a next) old s new (range_starved most is only kept stood given least) = untouched (ranges x absent a next) old s new (λ h. absurd (cc)) only.sink kept
 stands (reads_all limit long stated next) old s new (read all source gave stood within end run) =
-    goes_on (reads_all limit long stated next) (next all) old (record old { source = source }) s new (λ whole. whole all) (same_files old.store old.store refl) refl
+    goes_on (reads_all limit long stated next) (next all) old (record old { source = source }) s new (λ whole. whole all) (λ saves. saves all) (same_files old.store old.store refl) refl
     (λ told tells. let whole = whole_input old.source source told.input all tells.input gave end in
     (record told { input = [] }, record { input = whole.0; files = tells.files; random = tells.random }, refl, read_answer limit long stated next told all whole.1 within))
     (stands (next all) (record old { source = source }) s new run)
@@ -519,44 +552,60 @@ stands (reads_all limit long stated next) old s new (too_long is only stood coun
 stands (reads_all limit long stated next) old s new (read_failed is only rose upto) = untouched (reads_all limit long stated next) old s new (λ h. absurd (cc)) only.sink (same_files _ _ only.store)
 stands (reads_all limit long stated next) old s new (read_starved is only stood upto) = untouched (reads_all limit long stated next) old s new (λ h. absurd (cc)) only.sink (same_files _ _ only.store)
 stands (reads_front size next) old s new (front_read front source gave stood within end run) =
-    goes_on (reads_front size next) (next front) old (record old { source = source }) s new (λ whole. whole front) (same_files old.store old.store refl) refl
+    goes_on (reads_front size next) (next front) old (record old { source = source }) s new (λ whole. whole front) (λ saves. saves front) (same_files old.store old.store refl) refl
     (λ told tells. let split = front_input old.source source told.input front size tells.input gave within end in
     (record told { input = drop size told.input }, record { input = split.0; files = tells.files; random = tells.random }, refl, front_answer size next told front split.1))
     (stands (next front) (record old { source = source }) s new run)
 stands (reads_front size next) old s new (front_failed piece is only rose gave few) = untouched (reads_front size next) old s new (λ h. absurd (cc)) only.sink (same_files _ _ only.store)
 stands (draws kind give next) old s new (settled drawn entropy given drew stood settles run) =
-    goes_on (draws kind give next) (next given) old (record old { entropy = entropy }) s new (λ whole. whole given) (same_files old.store old.store refl) refl
+    goes_on (draws kind give next) (next given) old (record old { entropy = entropy }) s new (λ whole. whole given) (λ saves. saves given) (same_files old.store old.store refl) refl
     (λ told tells. let split = split_told entropy.left old.entropy.left told.random drawn tells.random drew.left in
     (record told { random = split.0 }, record { input = tells.input; files = tells.files; random = split.1 }, refl, settled_answer give drawn split.0 told.random given _ (λ x. answer (next x.answer) (record told { random = x.left })) settles split.2))
     (stands (next given) (record old { entropy = entropy }) s new run)
 stands (draws kind give next) old s new (draw_failed is only out) = untouched (draws kind give next) old s new (λ h. absurd (cc)) only.sink (same_files _ _ only.store)
 stands (draws kind give next) old s new (draw_starved parts is only drawn drew stood none) = untouched (draws kind give next) old s new (λ h. absurd (cc)) only.sink (same_files _ _ only.store)
-stands (exchanges exchange next) old s new (exchanged keys mid talk store steady run) =
-    let w = went exchange keys (sides_of old) (sides_of mid) talk in
-    let kept = same_files old.store mid.store store in
-    let later = stands (next keys) mid s new run in
-    record {
-      files = λ done fault. kept_twice _ _ _ kept (later.files done fault);
-      torn = λ h. torn_behind (exchanges exchange next) (next keys) old mid new kept (λ told tells. let after = is_told exchange next keys old mid told w store steady tells in record { later = record told { input = []; random = after.rest }; tells = after.tells; same = refl; status = ap (λ (a : Answer). a.status) after.is; files = ap (λ (a : Answer). a.files) after.is }) (later.torn h);
-      kept = λ whole. absurd whole;
-      front = λ whole. absurd whole;
-      last = λ whole. absurd whole;
-    }
-stands (exchanges exchange next) old s new (exchange_ended fault is talk store steady) = record { files = λ done fault. same_files _ _ store; torn = λ h. inl (same_files _ _ store); kept = λ whole. absurd whole; front = λ whole. absurd whole; last = λ whole. absurd whole }
+stands (exchanges exchange next) old s new run = record { files = λ saves. absurd saves; torn = λ saves. absurd saves; kept = λ whole. absurd whole; front = λ whole. absurd whole; last = λ whole. absurd whole }
 stands (collects part next) old s new (collected all source store gave stood kept quiet given end none run) =
-    goes_on (collects part next) (next (part.output all true)) old (record old { source = source; store = store }) s new (λ whole. whole (part.output all true)) kept refl
+    goes_on (collects part next) (next (part.output all true)) old (record old { source = source; store = store }) s new (λ whole. whole (part.output all true)) (λ saves. saves (part.output all true)) kept refl
     (λ told tells. let whole = whole_input old.source source told.input all tells.input gave end in
     (record told { input = [] }, record { input = whole.0; files = sym kept.files ∙ tells.files; random = tells.random }, refl, collected_answer part next told all whole.1 none))
     (stands (next (part.output all true)) (record old { source = source; store = store }) s new run)
 stands (collects part next) old s new (collect_refused taken ended refusal is kept_draft stood quiet end decided lasting) = untouched (collects part next) old s new (λ h. not_write_fault (stream_status refusal) (refusal_stated refusal) (sym is ∙ h)) kept_draft.sink kept_draft.kept
 stands (collects part next) old s new (collect_unread taken is kept_draft rose quiet undecided) = untouched (collects part next) old s new (λ h. absurd (cc)) kept_draft.sink kept_draft.kept
 stands (collects part next) old s new (collect_unkept taken ended is kept_draft stood rose some) = untouched (collects part next) old s new (λ h. absurd (cc)) kept_draft.sink kept_draft.kept
-stands (pumps part) old s new e = record { files = λ done fault. same_files _ _ e.only.store; torn = λ h. inl (same_files _ _ e.only.store); kept = λ whole. absurd whole; front = λ whole. absurd whole; last = λ whole. absurd whole }
+stands (pumps part) old s new e = record { files = λ saves done fault. same_files _ _ e.only.store; torn = λ saves h. inl (same_files _ _ e.only.store); kept = λ whole. absurd whole; front = λ whole. absurd whole; last = λ whole. absurd whole }
 
 -- What was taken, drawn and written.
 
 front_of : (old new : SinkState) (bytes : List ℕ) (front : TookPrefix old new bytes) → IsFront front.front bytes
 front_of old new bytes front = record { rest = front.rest; some = front.some; is = front.whole }
+
+-- no file has changed
+kept_stores : (old : World) (s : Status) (new : World) → KeptFiles old.store new.store → (s ≢ status.StoreFault → Stood old.store.faults new.store.faults) → Stores [] old s new
+kept_stores old s new kept stood = record { after = old.store.files; asks = refl; files = λ done fault. sym kept.files; torn = λ h. inl (sym kept.files); stood = λ other all. stood other }
+
+-- the store is as it was
+same_stores : (old : World) (s : Status) (new : World) → old.store ≡ new.store → Stores [] old s new
+same_stores old s new same = kept_stores old s new (same_files _ _ same) (λ other. sym (ap (λ (x : StoreState). x.faults) same))
+
+-- a file that may be there, where the store failed
+may_front : (name bytes : List ℕ) (old new : StoreState) → MayAdd old new name bytes → (new.files ≡ old.files) ⊎ AddsFront old.files new.files
+may_front name bytes old new (inl kept) = inl (sym kept.files)
+may_front name bytes old new (inr front) = inr (record { name = name; bytes = bytes; front = front.front; rest = front.rest; whole = front.whole; absent = front.added.absent; is = front.added.files })
+
+-- the run is done, or the store failed
+ended_stores : (old : World) (s : Status) (new : World) → (s ≢ status.Done → s ≢ status.StoreFault → ⊥) → (s ≡ status.StoreFault → (new.store.files ≡ old.store.files) ⊎ AddsFront old.store.files new.store.files) → (s ≢ status.StoreFault → Stood old.store.faults new.store.faults) → Stores [] old s new
+ended_stores old s new never torn stood = record { after = old.store.files; asks = refl; files = λ done fault. absurd (never done fault); torn = torn; stood = λ other all. stood other }
+
+-- behind a step that kept all files
+later_stores : (asked : List FileAsked) (old mid : World) (s : Status) (new : World) → old.store.files ≡ mid.store.files → Stood old.store.faults mid.store.faults → Stores asked mid s new → Stores asked old s new
+later_stores asked old mid s new same stood later = record {
+  after = later.after;
+  asks = subst (λ (f : Option Files). AsksOver asked f later.after) (sym same) later.asks;
+  files = later.files;
+  torn = later.torn;
+  stood = λ other all. later.stood other all ∙ stood;
+}
 
 -- nothing was moved
 none_moved : (p : Plan) (old : World) (s : Status) (new : World) → old ≡ new → IsLeft p old.store.files s nothing → Leaves p old s new
@@ -567,19 +616,20 @@ none_moved p old s new same is = record {
   none_lost = λ other. refl;
   took = took_same _ _ (ap (λ (w : World). w.sink) same);
   is = is;
+  store = same_stores old s new (ap (λ (w : World). w.store) same);
 }
 
 -- the store alone was used
-store_used : (p : Plan) (old : World) (s : Status) (new : World) → OnlyStore old new → IsLeft p old.store.files s nothing → Leaves p old s new
-store_used p old s new only is = record { moved = nothing; gave = gave_same _ _ only.source; gone = none_gone _ _ only.entropy; none_lost = λ other. refl; took = took_same _ _ only.sink; is = is }
+store_used : (p : Plan) (old : World) (s : Status) (new : World) → OnlyStore old new → Stores [] old s new → IsLeft p old.store.files s nothing → Leaves p old s new
+store_used p old s new only stores is = record { moved = nothing; gave = gave_same _ _ only.source; gone = none_gone _ _ only.entropy; none_lost = λ other. refl; took = took_same _ _ only.sink; is = is; store = stores }
 
 -- bytes were written alone
 some_written : (p : Plan) (old : World) (s : Status) (new : World) (written : List ℕ) → Took old.sink new.sink written → OnlySink old new → IsLeft p old.store.files s (record nothing { written = written }) → Leaves p old s new
-some_written p old s new written took only is = record { moved = record nothing { written = written }; gave = gave_same _ _ only.source; gone = none_gone _ _ only.entropy; none_lost = λ other. refl; took = took; is = is }
+some_written p old s new written took only is = record { moved = record nothing { written = written }; gave = gave_same _ _ only.source; gone = none_gone _ _ only.entropy; none_lost = λ other. refl; took = took; is = is; store = same_stores old s new only.store }
 
 -- bytes were taken alone
 some_taken : (p : Plan) (old : World) (s : Status) (new : World) (taken : List ℕ) → Gave old.source new.source taken → OnlySource old new → IsLeft p old.store.files s (record nothing { taken = taken }) → Leaves p old s new
-some_taken p old s new taken gave only is = record { moved = record nothing { taken = taken }; gave = gave; gone = none_gone _ _ only.entropy; none_lost = λ other. refl; took = took_same _ _ only.sink; is = is }
+some_taken p old s new taken gave only is = record { moved = record nothing { taken = taken }; gave = gave; gone = none_gone _ _ only.entropy; none_lost = λ other. refl; took = took_same _ _ only.sink; is = is; store = same_stores old s new only.store }
 
 -- what a pass took and wrote
 passed : (part : Part) (old : World) (s : Status) (new : World) (taken written : List ℕ) → OnlyStreams old new → Gave old.source new.source taken → Took old.sink new.sink written → IsPassLeft part s taken written → Leaves (pumps part) old s new
@@ -590,6 +640,7 @@ passed part old s new taken written only gave took is = record {
   none_lost = λ other. refl;
   took = took;
   is = (refl, is);
+  store = same_stores old s new only.store;
 }
 
 pump_leaves : (part : Part) (result : Result (Unit {0}) OpenPumpFault) (old : World) (s : Status) (new : World) → s ≡ pump_status result → OnlyStreams old new → Pumps part [] [] false result old.source new.source old.sink new.sink → Leaves (pumps part) old s new
@@ -598,105 +649,155 @@ pump_leaves part result old s new is only (pass.refused more out ended refusal r
 pump_leaves part result old s new is only (pass.unread more out r rose gave follows took o d) = passed part old s new more out only gave took (pass_unread (of_result s result (Err faults.ReadFault) is r) d o)
 pump_leaves part result old s new is only (pass.unwritten more out rest ended r rose gave follows end took some o) = passed part old s new more out only gave took (pass_unwritten ended (of_result s result (Err faults.WriteFault) is r) (record { rest = rest; some = some; is = o }))
 
+-- where no file was asked for in vain the store didn't fail
+asked_stood : (a : FileAsked) (old new : StoreState) → AsksFor a old new → a.why ≢ Some StoreFault → Stood old.faults new.faults
+asked_stood a old new (files.made why added stood given) other = stood
+asked_stood a old new (files.there why holds same) other = sym (ap (λ (x : StoreState). x.faults) same)
+asked_stood a old new (files.failed why may rose given) other = absurd (other why)
+
+asks_stood : (asked : List FileAsked) (old new : StoreState) → Asks asked old new → AllStood asked → Stood old.faults new.faults
+asks_stood [] old new same all = sym (ap (λ (x : StoreState). x.faults) same)
+asks_stood (a ∷ asked) old new asks all = asks_stood asked asks.0 new asks.2 all.1 ∙ asked_stood a old asks.0 asks.1 all.0
+
+all_first : (first second : List FileAsked) → AllStood (first ++ second) → AllStood first
+all_first [] second all = tt
+all_first (a ∷ first) second all = (all.0, all_first first second all.1)
+
+all_second : (first second : List FileAsked) → AllStood (first ++ second) → AllStood second
+all_second [] second all = all
+all_second (a ∷ first) second all = all_second first second all.1
+
+over_more : (first second : List FileAsked) (files mid after : Option Files) → AsksOver first files mid → AsksOver second mid after → AsksOver (first ++ second) files after
+over_more [] second files mid after same later = subst (λ (f : Option Files). AsksOver second f after) (sym same) later
+over_more (a ∷ first) second files mid after asks later = (asks.0, asks.1, asks.2, asks.3, over_more first second asks.1.files mid after asks.4 later)
+
+-- a store of which files were asked for
+asked_stores : (asked : List FileAsked) (old : World) (s : Status) (new : World) → Asks asked old.store new.store → Stores asked old s new
+asked_stores asked old s new asks = record {
+  after = new.store.files;
+  asks = asks_over asked old.store new.store asks;
+  files = λ done fault. refl;
+  torn = λ h. inl refl;
+  stood = λ other all. asks_stood asked old.store new.store asks all;
+}
+
+-- and then of more files, in what comes later
+session_stores : (first second : List FileAsked) (old mid : World) (s : Status) (new : World) → Asks first old.store mid.store → Stores second mid s new → Stores (first ++ second) old s new
+session_stores first second old mid s new asks later = record {
+  after = later.after;
+  asks = over_more first second old.store.files mid.store.files later.after (asks_over first old.store mid.store asks) later.asks;
+  files = later.files;
+  torn = later.torn;
+  stood = λ other all. later.stood other (all_second first second all) ∙ asks_stood first old.store mid.store asks (all_first first second all);
+}
+
 -- what a session took, drew and wrote
-talk_left : {D : (old new : EntropyState) → List ℕ → Type 0} (exchange : Exchange) (next : Keys → Plan) (old : World) (s : Status) (new : World) (taken drawn : List ℕ) (ended : Bool) (stop : Stop) → HasTalked D exchange taken drawn ended stop (sides_of old) (sides_of new) → (gone : DrewLosing old.entropy new.entropy drawn) → (s ≢ status.EntropyFault → gone.lost ≡ []) → (HasReplied exchange (record { taken = taken; drawn = drawn; written = (exchange taken drawn ended).output }) ended stop → IsTalkLeft exchange s (record { taken = taken; drawn = drawn; written = (exchange taken drawn ended).output })) → Leaves (exchanges exchange next) old s new
-talk_left exchange next old s new taken drawn ended stop has gone none_lost is = record {
-  moved = record { taken = taken; drawn = drawn; written = (exchange taken drawn ended).output };
+talk_left : {D : (old new : EntropyState) → List ℕ → Type 0} (exchange : StoreAnswers → Exchange) (answers : StoreAnswers) (next : Keys → Plan) (asked : List FileAsked) (old : World) (s : Status) (new : World) (taken drawn : List ℕ) (ended : Bool) (stop : Stop) → Asks asked old.store new.store → Agrees answers [] asked
+    → HasTalked D (exchange answers) taken drawn ended stop (sides_of old) (sides_of new) → (exchange answers taken drawn ended).asked ≡ asked → (gone : DrewLosing old.entropy new.entropy drawn) → (s ≢ status.EntropyFault → gone.lost ≡ [])
+    → (HasReplied (exchange answers) (record { taken = taken; drawn = drawn; written = (exchange answers taken drawn ended).output; asked = asked }) ended stop → IsTalkLeft (exchange answers) s (record { taken = taken; drawn = drawn; written = (exchange answers taken drawn ended).output; asked = asked })) → Leaves (exchanges exchange next) old s new
+talk_left exchange answers next asked old s new taken drawn ended stop asks agrees has files gone none_lost is = record {
+  moved = record { taken = taken; drawn = drawn; written = (exchange answers taken drawn ended).output; asked = asked };
   gave = has.gave;
   gone = gone;
   none_lost = none_lost;
   took = has.took;
-  is = inl (is (record { stands = has.stands; used = has.used; written = refl }));
+  is = inl (answers, agrees, is (record { stands = has.stands; used = has.used; written = refl; files = files }));
+  store = asked_stores asked old s new asks;
 }
 
-talk_leaves : (exchange : Exchange) (next : Keys → Plan) (fault : TalkFault) (old : World) (s : Status) (new : World) → s ≡ talk_status fault → Talks exchange (Err fault) (sides_of old) (sides_of new) → Leaves (exchanges exchange next) old s new
-talk_leaves exchange next fault old s new is (talks.talked taken drawn r has none) = absurd (cc)
-talk_leaves exchange next fault old s new is (talks.passed taken drawn limit r has none) = talk_left exchange next old s new taken drawn false (passes limit) has (lost_nothing _ _ drawn has.drew) (λ other. refl) (λ h. talk_passed limit (of_limit s fault limit is r) h)
-talk_leaves exchange next fault old s new is (talks.unread taken drawn r has rose sink entropy) = talk_left exchange next old s new taken drawn false goes has (lost_nothing _ _ drawn has.drew) (λ other. refl) (λ h. talk_unread (of_fault s fault talk_faults.ReadFault is r) h)
-talk_leaves exchange next fault old s new is (talks.undrawn taken drawn ended r has rose source sink) = talk_left exchange next old s new taken drawn ended wants has has.drew (λ other. absurd (other (of_fault s fault talk_faults.EntropyFault is r))) (λ h. talk_undrawn ended (of_fault s fault talk_faults.EntropyFault is r) h)
-talk_leaves exchange next fault old s new is (talks.unwritten taken drawn ended r gave drew front end rose source entropy) = record {
-  moved = record { taken = taken; drawn = drawn; written = front.front };
+talk_leaves : (exchange : StoreAnswers → Exchange) (answers : StoreAnswers) (next : Keys → Plan) (fault : TalkFault) (asked : List FileAsked) (old : World) (s : Status) (new : World) → s ≡ talk_status fault → Asks asked old.store new.store → Agrees answers [] asked
+    → (so : Talks (exchange answers) (Err fault) (sides_of old) (sides_of new)) → HasAsked (exchange answers) (Err fault) (sides_of old) (sides_of new) asked so → Leaves (exchanges exchange next) old s new
+talk_leaves exchange answers next fault asked old s new is asks agrees (talks.talked taken drawn r has none) e = absurd (cc)
+talk_leaves exchange answers next fault asked old s new is asks agrees (talks.passed taken drawn limit r has none) e = talk_left exchange answers next asked old s new taken drawn false (passes limit) asks agrees has e (lost_nothing _ _ drawn has.drew) (λ other. refl) (λ h. talk_passed limit (of_limit s fault limit is r) h)
+talk_leaves exchange answers next fault asked old s new is asks agrees (talks.unread taken drawn r has rose sink entropy) e = talk_left exchange answers next asked old s new taken drawn false goes asks agrees has e (lost_nothing _ _ drawn has.drew) (λ other. refl) (λ h. talk_unread (of_fault s fault talk_faults.ReadFault is r) h)
+talk_leaves exchange answers next fault asked old s new is asks agrees (talks.undrawn taken drawn ended r has rose source sink) e = talk_left exchange answers next asked old s new taken drawn ended wants asks agrees has e has.drew (λ other. absurd (other (of_fault s fault talk_faults.EntropyFault is r))) (λ h. talk_undrawn ended (of_fault s fault talk_faults.EntropyFault is r) h)
+talk_leaves exchange answers next fault asked old s new is asks agrees (talks.unwritten taken drawn ended r gave drew front end rose source entropy) e = record {
+  moved = record { taken = taken; drawn = drawn; written = front.front; asked = asked };
   gave = gave;
   gone = lost_nothing _ _ drawn drew;
   none_lost = λ other. refl;
   took = front.took;
-  is = inl (talk_unwritten ended (of_fault s fault talk_faults.WriteFault is r) (front_of _ _ _ front));
+  is = inl (answers, agrees, talk_unwritten ended (of_fault s fault talk_faults.WriteFault is r) (front_of _ _ _ front) e.0 e.1);
+  store = asked_stores asked old s new asks;
 }
-talk_leaves exchange next fault old s new is (talks.starved taken more drawn part r gave drew took stop none) = record {
-  moved = record { taken = taken ++ more; drawn = drawn ++ part; written = (exchange taken drawn false).output };
+talk_leaves exchange answers next fault asked old s new is asks agrees (talks.starved taken more drawn part r gave drew took stop none) e = record {
+  moved = record { taken = taken ++ more; drawn = drawn ++ part; written = (exchange answers taken drawn false).output; asked = asked };
   gave = gave;
   gone = lost_nothing _ _ (drawn ++ part) drew;
   none_lost = λ other. refl;
   took = took;
-  is = inl (talk_starved taken more drawn part (of_fault s fault talk_faults.NoMemory is r) refl refl stop refl);
+  is = inl (answers, agrees, talk_starved taken more drawn part (of_fault s fault talk_faults.NoMemory is r) refl refl stop refl e);
+  store = asked_stores asked old s new asks;
 }
 
 -- what a pass took of which nothing was given out
-taken_draft : (part : Part) (next : List ℕ → Plan) (old : World) (s : Status) (new : World) (taken : List ℕ) → KeptDraft old new taken → IsDraftLeft part s taken → Leaves (collects part next) old s new
-taken_draft part next old s new taken kept_draft is = record {
+taken_draft : (part : Part) (next : List ℕ → Plan) (old : World) (s : Status) (new : World) (taken : List ℕ) → KeptDraft old new taken → (s ≢ status.StoreFault → Stood old.store.faults new.store.faults) → IsDraftLeft part s taken → Leaves (collects part next) old s new
+taken_draft part next old s new taken kept_draft stood is = record {
   moved = record nothing { taken = taken };
   gave = kept_draft.gave;
   gone = none_gone _ _ kept_draft.entropy;
   none_lost = λ other. refl;
   took = took_same _ _ kept_draft.sink;
   is = inl (refl, is);
+  store = kept_stores old s new kept_draft.kept stood;
 }
 
 pub leaves : (p : Plan) (old : World) (s : Status) (new : World) → Ends p old s new → Leaves p old s new
 leaves (ends answered stated) old s new (is, same) = none_moved _ old s new same (is, refl)
 leaves (writes output) old s new (wrote is only stood took) = some_written _ old s new output took only (inl (is, refl))
 leaves (writes output) old s new (write_failed is only rose front) = some_written _ old s new front.front front.took only (inr (is, front_of _ _ _ front, refl))
-leaves (creates name output taken stated) old s new (made is only stood given added) = store_used _ old s new only (refl, inl (is, added.absent))
-leaves (creates name output taken stated) old s new (name_taken is only kept stood given there) = store_used _ old s new only (refl, inr (inl (is, there)))
-leaves (creates name output taken stated) old s new (create_failed is only rose given may) = store_used _ old s new only (refl, inr (inr (inl is)))
-leaves (creates name output taken stated) old s new (create_starved is only kept stood given) = store_used _ old s new only (refl, inr (inr (inr is)))
+leaves (creates name output taken stated) old s new (made is only stood given added) = store_used _ old s new only (ended_stores old s new (λ done fault. done is) (λ h. absurd (cc)) (λ other. stood)) (refl, inl (is, added.absent))
+leaves (creates name output taken stated) old s new (name_taken is only kept stood given there) = store_used _ old s new only (kept_stores old s new kept (λ other. stood)) (refl, inr (inl (is, there)))
+leaves (creates name output taken stated) old s new (create_failed is only rose given may) = store_used _ old s new only (ended_stores old s new (λ done fault. fault is) (λ h. may_front name output old.store new.store may) (λ other. absurd (other is))) (refl, inr (inr (inl is)))
+leaves (creates name output taken stated) old s new (create_starved is only kept stood given) = store_used _ old s new only (kept_stores old s new kept (λ other. stood)) (refl, inr (inr (inr is)))
 leaves (looks name taken stated next) old s new (look_free store kept stood given holds run) =
     let later = leaves next (record old { store = store }) s new run in
-    record { moved = later.moved; gave = later.gave; gone = later.gone; none_lost = later.none_lost; took = later.took; is = inr (holds, subst (λ (f : Option Files). IsLeft next f s later.moved) (sym kept.files) later.is) }
-leaves (looks name taken stated next) old s new (look_taken is only kept stood given there) = store_used _ old s new only (inl (refl, inl (is, there)))
-leaves (looks name taken stated next) old s new (look_failed is only kept rose given) = store_used _ old s new only (inl (refl, inr is))
-leaves (allocates next) old s new (inl run) = let later = leaves next old s new run in record { moved = later.moved; gave = later.gave; gone = later.gone; none_lost = later.none_lost; took = later.took; is = inr later.is }
+    record { moved = later.moved; gave = later.gave; gone = later.gone; none_lost = later.none_lost; took = later.took; is = inr (holds, subst (λ (f : Option Files). IsLeft next f s later.moved) (sym kept.files) later.is); store = later_stores later.moved.asked old (record old { store = store }) s new kept.files stood later.store }
+leaves (looks name taken stated next) old s new (look_taken is only kept stood given there) = store_used _ old s new only (kept_stores old s new kept (λ other. stood)) (inl (refl, inl (is, there)))
+leaves (looks name taken stated next) old s new (look_failed is only kept rose given) = store_used _ old s new only (kept_stores old s new kept (λ other. absurd (other is))) (inl (refl, inr is))
+leaves (allocates next) old s new (inl run) = let later = leaves next old s new run in record { moved = later.moved; gave = later.gave; gone = later.gone; none_lost = later.none_lost; took = later.took; is = inr later.is; store = later.store }
 leaves (allocates next) old s new (inr (is, same)) = none_moved _ old s new same (inl (is, refl))
 leaves (loads name limit absent long a l next) old s new (loaded bytes store kept stood given within holds run) =
     let later = leaves (next bytes) (record old { store = store }) s new run in
-    record { moved = later.moved; gave = later.gave; gone = later.gone; none_lost = later.none_lost; took = later.took; is = inr (bytes, holds, within, subst (λ (f : Option Files). IsLeft (next bytes) f s later.moved) (sym kept.files) later.is) }
-leaves (loads name limit absent long a l next) old s new (load_absent is only kept stood given holds) = store_used _ old s new only (inl (refl, inl (is, holds)))
-leaves (loads name limit absent long a l next) old s new (load_long is only kept stood given holds) = store_used _ old s new only (inl (refl, inr (inl (is, holds))))
-leaves (loads name limit absent long a l next) old s new (load_failed is only kept rose given) = store_used _ old s new only (inl (refl, inr (inr (inl is))))
-leaves (loads name limit absent long a l next) old s new (load_starved is only kept stood given) = store_used _ old s new only (inl (refl, inr (inr (inr is))))
+    record { moved = later.moved; gave = later.gave; gone = later.gone; none_lost = later.none_lost; took = later.took; is = inr (bytes, holds, within, subst (λ (f : Option Files). IsLeft (next bytes) f s later.moved) (sym kept.files) later.is); store = later_stores later.moved.asked old (record old { store = store }) s new kept.files stood later.store }
+leaves (loads name limit absent long a l next) old s new (load_absent is only kept stood given holds) = store_used _ old s new only (kept_stores old s new kept (λ other. stood)) (inl (refl, inl (is, holds)))
+leaves (loads name limit absent long a l next) old s new (load_long is only kept stood given holds) = store_used _ old s new only (kept_stores old s new kept (λ other. stood)) (inl (refl, inr (inl (is, holds))))
+leaves (loads name limit absent long a l next) old s new (load_failed is only kept rose given) = store_used _ old s new only (kept_stores old s new kept (λ other. absurd (other is))) (inl (refl, inr (inr (inl is))))
+leaves (loads name limit absent long a l next) old s new (load_starved is only kept stood given) = store_used _ old s new only (kept_stores old s new kept (λ other. stood)) (inl (refl, inr (inr (inr is))))
 leaves (ranges x absent a next) old s new (ranged opened store most kept stood given least past holds run) =
     let later = leaves (next opened) (record old { store = store }) s new run in
-    record { moved = later.moved; gave = later.gave; gone = later.gone; none_lost = later.none_lost; took = later.took; is = inr (opened, holds, subst (λ (f : Option Files). IsLeft (next opened) f s later.moved) (sym kept.files) later.is) }
-leaves (ranges x absent a next) old s new (range_absent is only kept stood given holds) = store_used _ old s new only (inl (refl, inl (is, holds)))
-leaves (ranges x absent a next) old s new (range_failed most is only kept rose given least) = store_used _ old s new only (inl (refl, inr (inl is)))
-leaves (ranges x absent a next) old s new (range_starved most is only kept stood given least) = store_used _ old s new only (inl (refl, inr (inr is)))
+    record { moved = later.moved; gave = later.gave; gone = later.gone; none_lost = later.none_lost; took = later.took; is = inr (opened, holds, subst (λ (f : Option Files). IsLeft (next opened) f s later.moved) (sym kept.files) later.is); store = later_stores later.moved.asked old (record old { store = store }) s new kept.files stood later.store }
+leaves (ranges x absent a next) old s new (range_absent is only kept stood given holds) = store_used _ old s new only (kept_stores old s new kept (λ other. stood)) (inl (refl, inl (is, holds)))
+leaves (ranges x absent a next) old s new (range_failed most is only kept rose given least) = store_used _ old s new only (kept_stores old s new kept (λ other. absurd (other is))) (inl (refl, inr (inl is)))
+leaves (ranges x absent a next) old s new (range_starved most is only kept stood given least) = store_used _ old s new only (kept_stores old s new kept (λ other. stood)) (inl (refl, inr (inr is)))
 leaves (reads_all limit long stated next) old s new (read all source gave stood within end run) =
     let later = leaves (next all) (record old { source = source }) s new run in
-    record { moved = record later.moved { taken = all ++ later.moved.taken }; gave = gave_more _ _ _ _ _ gave later.gave; gone = later.gone; none_lost = later.none_lost; took = later.took; is = inr (all, later.moved.taken, refl, within, later.is) }
+    record { moved = record later.moved { taken = all ++ later.moved.taken }; gave = gave_more _ _ _ _ _ gave later.gave; gone = later.gone; none_lost = later.none_lost; took = later.took; is = inr (all, later.moved.taken, refl, within, later.is); store = later_stores later.moved.asked old (record old { source = source }) s new refl refl later.store }
 leaves (reads_all limit long stated next) old s new (too_long is only stood count) = some_taken _ old s new count.piece count.gave only (inl (refl, inl (is, count.exact)))
 leaves (reads_all limit long stated next) old s new (read_failed is only rose upto) = some_taken _ old s new upto.piece upto.gave only (inl (refl, inr (inl is, upto.within)))
 leaves (reads_all limit long stated next) old s new (read_starved is only stood upto) = some_taken _ old s new upto.piece upto.gave only (inl (refl, inr (inr is, upto.within)))
 leaves (reads_front size next) old s new (front_read front source gave stood within end run) =
     let later = leaves (next front) (record old { source = source }) s new run in
-    record { moved = record later.moved { taken = front ++ later.moved.taken }; gave = gave_more _ _ _ _ _ gave later.gave; gone = later.gone; none_lost = later.none_lost; took = later.took; is = inr (front, later.moved.taken, refl, within, later.is) }
+    record { moved = record later.moved { taken = front ++ later.moved.taken }; gave = gave_more _ _ _ _ _ gave later.gave; gone = later.gone; none_lost = later.none_lost; took = later.took; is = inr (front, later.moved.taken, refl, within, later.is); store = later_stores later.moved.asked old (record old { source = source }) s new refl refl later.store }
 leaves (reads_front size next) old s new (front_failed piece is only rose gave few) = some_taken _ old s new piece gave only (inl (is, few, refl))
 leaves (draws kind give next) old s new (settled drawn entropy given drew stood settles run) =
     let later = leaves (next given) (record old { entropy = entropy }) s new run in
-    record { moved = record later.moved { drawn = drawn ++ later.moved.drawn }; gave = later.gave; gone = lost_later _ _ _ _ _ drew later.gone; none_lost = later.none_lost; took = later.took; is = inr (drawn, later.moved.drawn, given, refl, settles, later.is) }
-leaves (draws kind give next) old s new (draw_failed is only out) = record { moved = record nothing { drawn = out.drawn }; gave = gave_same _ _ only.source; gone = out.gone; none_lost = λ other. absurd (other is); took = took_same _ _ only.sink; is = inl (inl is, out.undecided, refl) }
-leaves (draws kind give next) old s new (draw_starved parts is only drawn drew stood none) = record { moved = record nothing { drawn = drawn }; gave = gave_same _ _ only.source; gone = lost_nothing _ _ drawn drew; none_lost = λ other. refl; took = took_same _ _ only.sink; is = inl (inr (is, parts), none, refl) }
+    record { moved = record later.moved { drawn = drawn ++ later.moved.drawn }; gave = later.gave; gone = lost_later _ _ _ _ _ drew later.gone; none_lost = later.none_lost; took = later.took; is = inr (drawn, later.moved.drawn, given, refl, settles, later.is); store = later_stores later.moved.asked old (record old { entropy = entropy }) s new refl refl later.store }
+leaves (draws kind give next) old s new (draw_failed is only out) = record { moved = record nothing { drawn = out.drawn }; gave = gave_same _ _ only.source; gone = out.gone; none_lost = λ other. absurd (other is); took = took_same _ _ only.sink; is = inl (inl is, out.undecided, refl); store = same_stores old s new only.store }
+leaves (draws kind give next) old s new (draw_starved parts is only drawn drew stood none) = record { moved = record nothing { drawn = drawn }; gave = gave_same _ _ only.source; gone = lost_nothing _ _ drawn drew; none_lost = λ other. refl; took = took_same _ _ only.sink; is = inl (inr (is, parts), none, refl); store = same_stores old s new only.store }
 leaves (collects part next) old s new (collected all source store gave stood kept quiet given end none run) =
     let later = leaves (next (part.output all true)) (record old { source = source; store = store }) s new run in
-    record { moved = record later.moved { taken = all ++ later.moved.taken }; gave = gave_more _ _ _ _ _ gave later.gave; gone = later.gone; none_lost = later.none_lost; took = later.took; is = inr (all, later.moved.taken, refl, none, subst (λ (f : Option Files). IsLeft (next (part.output all true)) f s later.moved) (sym kept.files) later.is) }
-leaves (collects part next) old s new (collect_refused taken ended refusal is kept_draft stood quiet end decided lasting) = taken_draft part next old s new taken kept_draft (draft_refused ended refusal is decided)
-leaves (collects part next) old s new (collect_unread taken is kept_draft rose quiet undecided) = taken_draft part next old s new taken kept_draft (draft_unread is undecided)
-leaves (collects part next) old s new (collect_unkept taken ended is kept_draft stood rose some) = taken_draft part next old s new taken kept_draft (draft_unkept ended is some)
+    record { moved = record later.moved { taken = all ++ later.moved.taken }; gave = gave_more _ _ _ _ _ gave later.gave; gone = later.gone; none_lost = later.none_lost; took = later.took; is = inr (all, later.moved.taken, refl, none, subst (λ (f : Option Files). IsLeft (next (part.output all true)) f s later.moved) (sym kept.files) later.is); store = later_stores later.moved.asked old (record old { source = source; store = store }) s new kept.files quiet later.store }
+leaves (collects part next) old s new (collect_refused taken ended refusal is kept_draft stood quiet end decided lasting) = taken_draft part next old s new taken kept_draft (λ other. quiet) (draft_refused ended refusal is decided)
+leaves (collects part next) old s new (collect_unread taken is kept_draft rose quiet undecided) = taken_draft part next old s new taken kept_draft (λ other. quiet) (draft_unread is undecided)
+leaves (collects part next) old s new (collect_unkept taken ended is kept_draft stood rose some) = taken_draft part next old s new taken kept_draft (λ other. absurd (other is)) (draft_unkept ended is some)
 leaves (pumps part) old s new e = pump_leaves part e.result old s new e.status e.only e.pass
-leaves (exchanges exchange next) old s new (exchanged keys mid talk store steady run) =
-    let w = went exchange keys (sides_of old) (sides_of mid) talk in
-    let x = exchange w.taken w.drawn true in
+leaves (exchanges exchange next) old s new (exchanged keys mid talk steady run) =
+    let so = some_session exchange (Ok keys) (sides_of old) (sides_of mid) old.store mid.store talk in
+    let w = went (exchange so.0) keys talk.asked (sides_of old) (sides_of mid) so.2 so.3 in
+    let x = exchange so.0 w.taken w.drawn true in
     let later = leaves (next keys) mid s new run in
-    let first : Moved = record { taken = w.taken; drawn = w.drawn; written = x.output } in
+    let first : Moved = record { taken = w.taken; drawn = w.drawn; written = x.output; asked = talk.asked } in
     record {
       moved = then_moved first later.moved;
       gave = gave_more _ _ _ _ _ w.has.gave later.gave;
@@ -706,13 +807,19 @@ leaves (exchanges exchange next) old s new (exchanged keys mid talk store steady
       is = inr (
         first,
         later.moved,
+        mid.store.files,
         refl,
-        record { stands = w.has.stands; used = w.has.used; written = refl },
-        subst (λ (k : Keys). IsLeft (next k) old.store.files s later.moved) w.last
-            (subst (λ (x : StoreState). IsLeft (next keys) x.files s later.moved) (sym store) later.is),
+        asks_over talk.asked old.store mid.store talk.asks,
+        so.0,
+        so.1,
+        record { stands = w.has.stands; used = w.has.used; written = refl; files = w.files },
+        subst (λ (k : Keys). IsLeft (next k) mid.store.files s later.moved) w.last later.is,
       );
+      store = session_stores talk.asked later.moved.asked old mid s new talk.asks later.store;
     }
-leaves (exchanges exchange next) old s new (exchange_ended fault is talk store steady) = talk_leaves exchange next fault old s new is talk
+leaves (exchanges exchange next) old s new (exchange_ended fault is talk steady) =
+    let so = some_session exchange (Err fault) (sides_of old) (sides_of new) old.store new.store talk in
+    talk_leaves exchange so.0 next fault talk.asked old s new is talk.asks so.1 so.2 so.3
 
 pub promised : (p : Plan) (old : World) (s : Status) (new : World) → Ends p old s new → Promised p old s new
 promised p old s new run = record {

@@ -71,9 +71,9 @@ advice status.InputTooLong = codes "seal, tag and derive take 16777216 bytes, an
 advice status.TooManySegments =
     codes "a stream has at most 4294967296 segments: use a template with larger ones"
 advice status.LineTooLong =
-    codes "a line has at most 65536 bytes; what the session did to the keyset is lost"
+    codes "a line has at most 65536 bytes; edits that the session did not save are lost"
 advice status.TooManyLines =
-    codes "a session has at most 100000 lines; what it did to the keyset is lost"
+    codes "a session has at most 100000 lines; edits that it did not save are lost"
 advice status.StreamMissing = codes "the file that --file gives is not there"
 advice status.OutExists = codes "no file is ever replaced: give --out another name"
 advice other = []

@@ -10,8 +10,9 @@ use Rattle.tinkey_cmds.specs.Draws.{Draw, answered}
 use Rattle.tinkey_cmds.specs.Applying.{RanOut}
 use Rattle.tinkey_cmds.specs.declared.command.EditRefusal.{EditRefusal}
 use Rattle.keyset_model.specs.Keyset.{Keys}
+use Rattle.tinkey_session.specs.Saving.{StoreAnswers}
 use Rattle.tinkey_session.specs.Talking.{Exchange}
-use Rattle.tinkey_session.specs.Talks.{Sides, sides, Talks, IsSteady}
+use Rattle.tinkey_session.specs.Talks.{Sides, sides, TalksWith, IsSteady}
 use Rattle.tinkey_session.specs.declared.talk.TalkFault.{TalkFault}
 use Rattle.tinkey_session.specs.declared.talk.TalkFault.TheVariants as talk_faults
 use Rattle.tinkey_plans.specs.FileRange.{Opened, FileRange, GivesAtMost, HoldsRange, IsShortPast}
@@ -266,16 +267,21 @@ talk_status talk_faults.NoMemory = status.NoMemory
 abbrev pub sides_of : World → Sides
 sides_of w = sides w.source w.sink w.entropy
 
+-- a session over these objects came to this result
+abbrev pub Exchanges : (StoreAnswers → Exchange) → Result Keys TalkFault → (old new : World) → Type 0
+Exchanges exchange result old new =
+    TalksWith exchange result (sides_of old) (sides_of new) old.store new.store
+
 -- the session came to the end of its input, and then it went on with the last keyset; or it ended
 -- before that
-pub data EndsExchanging (exchange : Exchange) (Then : Keys → World → Status → World → Type 0)
-    (old : World) (s : Status) (new : World) : Type 0 where
-  exchanged : (keys : Keys) (mid : World) → Talks exchange (Ok keys) (sides_of old) (sides_of mid) →
-      old.store ≡ mid.store → IsSteady exchange → Then keys mid s new →
+pub data EndsExchanging (exchange : StoreAnswers → Exchange)
+    (Then : Keys → World → Status → World → Type 0) (old : World) (s : Status) (new : World)
+    : Type 0 where
+  exchanged : (keys : Keys) (mid : World) → Exchanges exchange (Ok keys) old mid →
+      ((answers : StoreAnswers) → IsSteady (exchange answers)) → Then keys mid s new →
       EndsExchanging exchange Then old s new
-  exchange_ended : (fault : TalkFault) → s ≡ talk_status fault →
-      Talks exchange (Err fault) (sides_of old) (sides_of new) → old.store ≡ new.store →
-      IsSteady exchange → EndsExchanging exchange Then old s new
+  exchange_ended : (fault : TalkFault) → s ≡ talk_status fault → Exchanges exchange (Err fault) old new →
+      ((answers : StoreAnswers) → IsSteady (exchange answers)) → EndsExchanging exchange Then old s new
 
 -- how a run of the plan may end, step by step
 abbrev pub Ends : Plan → World → Status → World → Type 0

@@ -10,6 +10,7 @@ use Rattle.keyset_model.specs.Keyset.{Keys}
 use Rattle.managers.specs.Table.{Table}
 use Rattle.managers.specs.Uses.{iv_size}
 use Rattle.tinkey_cmds.specs.Draws.{Drawn}
+use Rattle.tinkey_session.specs.Saving.{by_files, files_after}
 use Rattle.tinkey_session.specs.Talking.{goes}
 use Rattle.wrapped_prims.specs.Answers.{Sealed, primary_key, seal_answer}
 use Rattle.tinkey_plans.specs.declared.status.Status.TheVariants as status
@@ -46,8 +47,9 @@ NoneRefuses (collects part next) told =
     (part.refusal told.input true ≡ None)
     × NoneRefuses (next (part.output told.input true)) (record told { input = [] })
 NoneRefuses (exchanges exchange next) told =
-    let x = exchange told.input told.random true in
-    (x.stop ≡ goes) × NoneRefuses (next x.keys) (record told { input = []; random = x.random })
+    let x = exchange (by_files told.files) told.input told.random true in
+    (x.stop ≡ goes) × NoneRefuses (next x.keys)
+    (record told { input = []; files = files_after told.files x.asked; random = x.random })
 
 -- The stated answer of a command is Done exactly where none of its steps refuses.
 abbrev pub DoneExactly : Type 0

@@ -9,6 +9,7 @@ use Rattle.segment_stream.specs.Opening.{StreamRefusal, too_many, failed}
 use Rattle.segment_stream.specs.Pumping.{Part}
 use Rattle.tinkey_cmds.specs.Draws.{Draw, Drawn}
 use Rattle.tinkey_cmds.specs.declared.command.EditRefusal.{EditRefusal}
+use Rattle.tinkey_session.specs.Saving.{StoreAnswers, by_files, files_after}
 use Rattle.tinkey_session.specs.Talking.{Exchange, Talk, Stop, goes, wants, passes, Limit, long_line, many_lines}
 use Rattle.tinkey_plans.specs.FileRange.{Opened, FileRange, range_in}
 use Rattle.tinkey_plans.specs.declared.status.Status.{Status}
@@ -73,9 +74,10 @@ pub data Plan : Type 0 where
   -- the source is read in a pass of which nothing is given out before its end: all of its output goes on, and a
   -- stream that is refused is answered so
   collects : (part : Part) → (next : (output : List ℕ) → Plan) → Plan
-  -- a session: each line of the source is answered in turn, of random bytes where it takes some,
-  -- and the last keyset goes on; one that is past a limit is answered so
-  exchanges : (exchange : Exchange) → (next : Keys → Plan) → Plan
+  -- a session: each line of the source is answered in turn, of random bytes where it takes some, and with a new file
+  -- where it saves the keyset; and the last keyset goes on. What it is depends on what the store answers. One that is
+  -- past a limit is answered so
+  exchanges : (exchange : StoreAnswers → Exchange) → (next : Keys → Plan) → Plan
 
 -- what the outside objects tell
 pub record Told : Type 0 where
@@ -129,8 +131,8 @@ abbrev pub limit_status : Limit → Status
 limit_status long_line = status.LineTooLong
 limit_status many_lines = status.TooManyLines
 
--- The answer of a session over the whole input, and of what comes after it. Where the random bytes
--- don't suffice, the entropy can but fail.
+-- The answer of a session over the whole input, and of what comes after it, with the files that it made. Where the
+-- random bytes don't suffice, the entropy can but fail.
 abbrev pub talk_answer : Stop → Talk → Told → (next : Answer) → Answer
 talk_answer goes x told next = record next { output = x.output ++ next.output }
 talk_answer wants x told next = record (refused told status.EntropyFault) {
@@ -200,5 +202,6 @@ answer (collects part next) told =
     collect_answer (part.refusal told.input true) told
     (answer (next (part.output told.input true)) (record told { input = [] }))
 answer (exchanges exchange next) told =
-    let x = exchange told.input told.random true in
-    talk_answer x.stop x told (answer (next x.keys) (record told { input = []; random = x.random }))
+    let x = exchange (by_files told.files) told.input told.random true in
+    let saved = record told { files = files_after told.files x.asked } in
+    talk_answer x.stop x saved (answer (next x.keys) (record saved { input = []; random = x.random }))

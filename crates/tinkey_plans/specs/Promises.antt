@@ -1,5 +1,5 @@
 -- What is promised of every run, over its plan, the objects before and after, and its status.
-use Rattle.std.specs.Prelude.{◌≡◌, ◌≢◌, ◌⊎◌, ℕ, ◌+◌, ◌<◌, ◌≤◌, List, [], ◌++◌, length, true, false, Bool, Option, Some, None, IfSome, Result}
+use Rattle.std.specs.Prelude.{◌≡◌, ◌≢◌, ◌⊎◌, ℕ, ◌+◌, ◌<◌, ◌≤◌, List, [], ◌∷◌, ◌++◌, length, true, false, Bool, Option, Some, None, IfSome, option_map, Result}
 use Rattle.std.specs.FinMap as map
 use Rattle.tink_spec.specs.Files.{Files, StoreState, KeptFiles, Holds, HoldsSome, HoldsLonger, AddedFront}
 use Rattle.tink_spec.specs.Outside.{Rose, Stood, Gave, Took, TookPrefix, DrewLosing}
@@ -7,6 +7,8 @@ use Rattle.segment_stream.specs.Opening.{StreamRefusal}
 use Rattle.keyset_model.specs.Keyset.{Keys}
 use Rattle.segment_stream.specs.Pumping.{Part}
 use Rattle.tinkey_cmds.specs.declared.command.EditRefusal.{EditRefusal}
+use Rattle.tinkey_session.specs.Saving.{Agrees, AsksFor, FileAsked, StoreAnswers}
+use Rattle.tinkey_session.specs.declared.reply.LineRefusal.TheVariants.{StoreFault}
 use Rattle.tinkey_session.specs.Talking.{Exchange, Limit, Stop, goes, wants, passes}
 use Rattle.tinkey_plans.specs.declared.status.Status.{Status}
 use Rattle.tinkey_plans.specs.declared.status.Status.TheVariants as status
@@ -29,10 +31,31 @@ pub record IsAnswer (a : Answer) (old : World) (s : Status) (new : World) : Type
   pub files : new.store.files ≡ Some a.files
   pub random : new.entropy.left ≡ Some a.random
 
+-- no line saves the keyset: the plan has no session
+abbrev pub SavesNothing : Plan → Type 0
+SavesNothing (ends stated_status stated) = Unit {0}
+SavesNothing (writes output) = Unit {0}
+SavesNothing (creates name output taken stated) = Unit {0}
+SavesNothing (looks name taken stated next) = SavesNothing next
+SavesNothing (allocates next) = SavesNothing next
+SavesNothing (loads name limit absent long a l next) = (bytes : List ℕ) → SavesNothing (next bytes)
+SavesNothing (ranges x absent a next) = (opened : Opened) → SavesNothing (next opened)
+SavesNothing (reads_all limit long stated next) = (all : List ℕ) → SavesNothing (next all)
+SavesNothing (reads_front size next) = (front : List ℕ) → SavesNothing (next front)
+SavesNothing (draws kind give next) = (given : Result (Of kind) EditRefusal) → SavesNothing (next given)
+SavesNothing (pumps part) = Unit {0}
+SavesNothing (collects part next) = (output : List ℕ) → SavesNothing (next output)
+SavesNothing (exchanges exchange next) = ⊥
+
+-- No store fault is told by a reply alone: there is no session, or no call of the store has failed.
+abbrev pub NoneUnsaved : Plan → (old new : World) → Type 0
+NoneUnsaved p old new = SavesNothing p ⊎ (Rose old.store.faults new.store.faults → ⊥)
+
 -- The stated answer: over objects that tell, each status but the faults and NoMemory is the
--- answer's, and so is all that was done.
+-- answer's, and so is all that was done; but not if the store failed where a line saved the keyset.
 pub record Answers (p : Plan) (old : World) (s : Status) (new : World) : Type 0 where
-  pub over : (told : Told) → Tells old told → IsStated s → IsAnswer (answer p told) old s new
+  pub over : (told : Told) → Tells old told → IsStated s → NoneUnsaved p old new
+      → IsAnswer (answer p told) old s new
 
 -- The causes of faults: a fault comes only where that object's count of faults rose.
 pub record HasCause (old : World) (s : Status) (new : World) : Type 0 where
@@ -42,11 +65,12 @@ pub record HasCause (old : World) (s : Status) (new : World) : Type 0 where
   pub entropy : s ≡ status.EntropyFault → Rose old.entropy.faults new.entropy.faults
 
 -- No fault is hidden: where the status isn't the fault of an object, no call of that object has
--- failed. Of the diagnostic sink nothing is said.
-pub record ShowsFaults (old : World) (s : Status) (new : World) : Type 0 where
+-- failed. Of the diagnostic sink nothing is said. Where a session's line saves the keyset, a reply tells
+-- a store fault: `Leaves` speaks of that.
+pub record ShowsFaults (p : Plan) (old : World) (s : Status) (new : World) : Type 0 where
   pub read : s ≢ status.ReadFault → Stood old.source.faults new.source.faults
   pub write : s ≢ status.WriteFault → Stood old.sink.faults new.sink.faults
-  pub store : s ≢ status.StoreFault → Stood old.store.faults new.store.faults
+  pub store : SavesNothing p → s ≢ status.StoreFault → Stood old.store.faults new.store.faults
   pub entropy : s ≢ status.EntropyFault → Stood old.entropy.faults new.entropy.faults
 
 -- these bytes are the first of those, and at least one isn't there
@@ -59,15 +83,25 @@ pub record IsFront (front whole : List ℕ) : Type 0 where
 abbrev pub over_files : Option Files → StoreState
 over_files files = record { files = files; faults = 0; given = 0 }
 
--- what was taken of the source, drawn of the entropy, and written to the sink
+-- what was taken of the source, drawn of the entropy, and written to the sink, and the files that lines of a session
+-- asked for
 pub record Moved : Type 0 where
   pub taken : List ℕ
   pub drawn : List ℕ
   pub written : List ℕ
+  pub asked : List FileAsked
 
 -- nothing was
 abbrev pub nothing : Moved
-nothing = record { taken = []; drawn = []; written = [] }
+nothing = record { taken = []; drawn = []; written = []; asked = [] }
+
+-- These files were asked for, one after another, of a store with these files at first, if it tells them, and then it has
+-- those after them.
+abbrev pub AsksOver : List FileAsked → (files after : Option Files) → Type 0
+AsksOver [] files after = files ≡ after
+AsksOver (a ∷ asked) files after =
+    (old : StoreState) × (new : StoreState) × (old.files ≡ files) × AsksFor a old new
+    × AsksOver asked new.files after
 
 -- A pass is left where all is done; where what was taken decides this status; where a read failed before
 -- that; or where a write failed and a byte of what was to be given out is still to come. But for that,
@@ -93,17 +127,18 @@ pub data IsDraftLeft (part : Part) (s : Status) (taken : List ℕ) : Type 0 wher
       IsDraftLeft part s taken
 
 -- Over the bytes taken, with all the random bytes drawn, the session stands so, and the replies to
--- the lines among them were written.
+-- the lines among them were written, which asked for these files.
 pub record HasReplied (exchange : Exchange) (moved : Moved) (ended : Bool) (stop : Stop)
     : Type 0 where
   pub stands : (exchange moved.taken moved.drawn ended).stop ≡ stop
   pub used : (exchange moved.taken moved.drawn ended).random ≡ []
   pub written : moved.written ≡ (exchange moved.taken moved.drawn ended).output
+  pub files : (exchange moved.taken moved.drawn ended).asked ≡ moved.asked
 
 -- A session is left where the bytes taken are past a limit; where a read failed before that; where
 -- the entropy failed, and a line wants more random bytes than were drawn; or where a write failed,
--- and a byte of the replies to the lines taken is still to come. Where memory was wanting, the
--- replies to the lines among the first of the bytes taken were written.
+-- and a byte of the replies to the lines taken is still to come; then the last lines may not have asked for a file.
+-- Where memory was wanting, the replies to the lines among the first of the bytes taken were written.
 pub data IsTalkLeft (exchange : Exchange) (s : Status) (moved : Moved) : Type 0 where
   talk_passed : (limit : Limit) → s ≡ limit_status limit →
       HasReplied exchange moved false (passes limit) → IsTalkLeft exchange s moved
@@ -112,12 +147,14 @@ pub data IsTalkLeft (exchange : Exchange) (s : Status) (moved : Moved) : Type 0 
   talk_undrawn : (ended : Bool) → s ≡ status.EntropyFault →
       HasReplied exchange moved ended wants → IsTalkLeft exchange s moved
   talk_unwritten : (ended : Bool) → s ≡ status.WriteFault →
-      IsFront moved.written (exchange moved.taken moved.drawn ended).output →
+      IsFront moved.written (exchange moved.taken moved.drawn ended).output → (later : List FileAsked) →
+      (exchange moved.taken moved.drawn ended).asked ≡ moved.asked ++ later →
       IsTalkLeft exchange s moved
   talk_starved : (taken more drawn part : List ℕ) → s ≡ status.NoMemory →
       taken ++ more ≡ moved.taken → drawn ++ part ≡ moved.drawn →
       (exchange taken drawn false).stop ≡ goes →
-      moved.written ≡ (exchange taken drawn false).output → IsTalkLeft exchange s moved
+      moved.written ≡ (exchange taken drawn false).output →
+      (exchange taken drawn false).asked ≡ moved.asked → IsTalkLeft exchange s moved
 
 -- what was moved first, and then
 abbrev pub then_moved : Moved → Moved → Moved
@@ -125,6 +162,7 @@ then_moved first later = record {
   taken = first.taken ++ later.taken;
   drawn = first.drawn ++ later.drawn;
   written = first.written ++ later.written;
+  asked = first.asked ++ later.asked;
 }
 
 -- A run of the plan over these files may be left with this status where exactly these bytes were
@@ -181,10 +219,35 @@ IsLeft (collects part next) files s moved =
     ⊎ ((all : List ℕ) × (more : List ℕ) × (all ++ more ≡ moved.taken) × (part.refusal all true ≡ None)
     × IsLeft (next (part.output all true)) files s (record moved { taken = more }))
 IsLeft (exchanges exchange next) files s moved =
-    IsTalkLeft exchange s moved
-    ⊎ ((first : Moved) × (later : Moved) × (then_moved first later ≡ moved)
-    × HasReplied exchange first true goes
-    × IsLeft (next (exchange first.taken first.drawn true).keys) files s later)
+    ((answers : StoreAnswers) × Agrees answers [] moved.asked × IsTalkLeft (exchange answers) s moved)
+    ⊎ ((first : Moved) × (later : Moved) × (after : Option Files) × (then_moved first later ≡ moved)
+    × AsksOver first.asked files after
+    × (answers : StoreAnswers) × Agrees answers [] first.asked × HasReplied (exchange answers) first true goes
+    × IsLeft (next (exchange answers first.taken first.drawn true).keys) after s later)
+
+-- no file was asked for where the store failed
+abbrev pub AllStood : List FileAsked → Type 0
+AllStood [] = Unit {0}
+AllStood (a ∷ asked) = (a.why ≢ Some StoreFault) × AllStood asked
+
+-- one file is new, with the first bytes of the one that was to be made, or all of them
+pub record AddsFront (files after : Option Files) : Type 0 where
+  pub name : List ℕ
+  pub bytes : List ℕ
+  pub front : List ℕ
+  pub rest : List ℕ
+  pub whole : front ++ rest ≡ bytes
+  pub absent : IfSome files (λ f. map.get f name ≡ None)
+  pub is : after ≡ option_map (λ f. map.insert f name front) files
+
+-- These files were asked for by lines of a session, and no other has changed, unless the run is Done or the store failed;
+-- then one more may be new. If a store fault isn't the status, the store failed only where a line was answered so.
+pub record Stores (asked : List FileAsked) (old : World) (s : Status) (new : World) : Type 0 where
+  pub after : Option Files
+  pub asks : AsksOver asked old.store.files after
+  pub files : s ≢ status.Done → s ≢ status.StoreFault → new.store.files ≡ after
+  pub torn : s ≡ status.StoreFault → (new.store.files ≡ after) ⊎ AddsFront after new.store.files
+  pub stood : s ≢ status.StoreFault → AllStood asked → Stood old.store.faults new.store.faults
 
 -- the plan writes nothing but at its end: it pumps no stream, and has no session
 abbrev pub IsWhole : Plan → Type 0
@@ -205,7 +268,8 @@ IsWhole (exchanges exchange next) = ⊥
 -- What was taken, drawn and written, whatever the status: a fault comes before each refusal that the
 -- files and the bytes taken and drawn decide, and what was written is what the plan gives out for
 -- them. Random bytes behind those drawn are lost only where the entropy failed, and none where it fails
--- only for want of bytes.
+-- only for want of bytes. What lines of a session asked of the store it did, and no other file has changed, unless the
+-- run is Done or the store failed; if that isn't the status, a line was answered so.
 pub record Leaves (p : Plan) (old : World) (s : Status) (new : World) : Type 0 where
   pub moved : Moved
   pub gave : Gave old.source new.source moved.taken
@@ -213,6 +277,7 @@ pub record Leaves (p : Plan) (old : World) (s : Status) (new : World) : Type 0 w
   pub none_lost : s ≢ status.EntropyFault → gone.lost ≡ []
   pub took : Took old.sink new.sink moved.written
   pub is : IsLeft p old.store.files s moved
+  pub store : Stores moved.asked old s new
 
 -- A run of the plan over these files may be given so many bytes of them: each file that was loaded, one byte
 -- more than its limit of one that wasn't, of a range what it takes, and nothing else.
@@ -241,7 +306,8 @@ MayGive (pumps part) files given = given ≡ 0
 MayGive (collects part next) files given =
     (given ≡ 0) ⊎ ((output : List ℕ) × MayGive (next output) files given)
 MayGive (exchanges exchange next) files given =
-    (given ≡ 0) ⊎ ((keys : Keys) × MayGive (next keys) files given)
+    (given ≡ 0) ⊎ ((keys : Keys) × (asked : List FileAsked) × (after : Option Files)
+    × AsksOver asked files after × MayGive (next keys) after given)
 
 -- What was read of files, whatever the status: no more than the plan takes. So no run loads a whole
 -- stream.
@@ -261,12 +327,13 @@ pub record IsTorn (p : Plan) (old new : World) : Type 0 where
       (answer p told).files ≡ map.insert told.files name bytes
 
 -- What stands. No file has changed, unless the run is Done or the store failed: at a store fault the
--- new file may be there with the first of its bytes. But for streams and sessions, of which
+-- new file may be there with the first of its bytes. Of sessions, whose lines may save the keyset, `Leaves` says
+-- that. But for streams and sessions, of which
 -- `Leaves` speaks, the sink has gained nothing, unless the run is Done or the write failed; then it
 -- has gained the first bytes of the answer's output, and the answer's status is Done.
 pub record Stands (p : Plan) (old : World) (s : Status) (new : World) : Type 0 where
-  pub files : s ≢ status.Done → s ≢ status.StoreFault → KeptFiles old.store new.store
-  pub torn : s ≡ status.StoreFault → KeptFiles old.store new.store ⊎ IsTorn p old new
+  pub files : SavesNothing p → s ≢ status.Done → s ≢ status.StoreFault → KeptFiles old.store new.store
+  pub torn : SavesNothing p → s ≡ status.StoreFault → KeptFiles old.store new.store ⊎ IsTorn p old new
   pub kept : IsWhole p → s ≢ status.Done → s ≢ status.WriteFault → Took old.sink new.sink []
   pub front : IsWhole p → s ≡ status.WriteFault → (told : Told) → Tells old told →
       TookPrefix old.sink new.sink (answer p told).output
@@ -290,7 +357,7 @@ pub record Completes (old : World) (s : Status) (new : World) : Type 0 where
 pub record Promised (p : Plan) (old : World) (s : Status) (new : World) : Type 0 where
   pub answer : Answers p old s new
   pub cause : HasCause old s new
-  pub shown : ShowsFaults old s new
+  pub shown : ShowsFaults p old s new
   pub leaves : Leaves p old s new
   pub reads : Reads p old new
   pub stands : Stands p old s new

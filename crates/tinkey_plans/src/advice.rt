@@ -31,10 +31,10 @@ pub(crate) fn advice(status: Status) -> &'static str
             "a stream has at most 4294967296 segments: use a template with larger ones"
         }
         Status::LineTooLong => {
-            "a line has at most 65536 bytes; what the session did to the keyset is lost"
+            "a line has at most 65536 bytes; edits that the session did not save are lost"
         }
         Status::TooManyLines => {
-            "a session has at most 100000 lines; what it did to the keyset is lost"
+            "a session has at most 100000 lines; edits that it did not save are lost"
         }
         Status::StreamMissing => "the file that --file gives is not there",
         Status::OutExists => "no file is ever replaced: give --out another name",

@@ -285,7 +285,7 @@ Tag, verify and derive:
   derive              derives bytes from standard input
 
 Many lines in one run:
-  session             answers lines that seal, open, tag, verify, derive and edit
+  session             answers lines that seal, open, tag, verify, derive, edit and save
   selftest            seals, opens and edits many times, and counts the results
 
 More:
@@ -495,14 +495,14 @@ A command that fails prints a line on standard error and ends with an exit code.
      The input of a stream is too long for its segments: use a template with larger ones.
 
 6  line too long
-     A line of a session has at most 65,536 bytes. The replies before it are valid, but the
-     session's keyset is lost, and --out makes no file: what was sealed under a key that the
-     session made never opens again.
+     A line of a session has at most 65,536 bytes. The replies before it are valid, but
+     --out makes no file: edits that no line save kept are lost, and what was sealed under a
+     key that they made never opens again.
 
 6  too many lines
-     A session has at most 100,000 lines. Its replies are valid, but its keyset is lost, and
-     --out makes no file: what was sealed under a key that the session made never opens
-     again. Count the lines first, and split them over several sessions.
+     A session has at most 100,000 lines. Its replies are valid, but --out makes no file:
+     edits that no line save kept are lost, and what was sealed under a key that they made
+     never opens again. Count the lines first, and split them over several sessions.
 
 7  out of memory
      Memory was refused. No new file was made; what a stream or a session had written before
@@ -945,7 +945,13 @@ Keys   of templates that tinkey list-key-templates --for derive lists
   echo 'Dear Ada' | tinkey derive --keyset derive.json --length 32 --hex
 "),
         CommandName::Session => text!([] "\
-tinkey session: answers lines that seal, open, tag, verify, derive and edit
+tinkey session: answers lines that seal, open, tag, verify, derive, edit and save
+
+Lost   every edit that no file has: a line save FILE that was answered ok keeps the edits
+       before it, and --out those of a session that ended with exit code 0. What was sealed
+       or tagged under a key that the session made, and that no file has, never opens or
+       verifies again. So send save behind each add and rotate, and wait for its ok before
+       you hand out what the new key seals
 
   tinkey session --keyset FILE [--keyset-format json|binary] [--out FILE]
       [--out-format json|binary] [--master FILE] [--master-format json|binary]
@@ -954,17 +960,73 @@ Required:
 " keyset_31 "
 Optional:
 " keyset_format_31 out_31 out_format_31 master_31 master_format_31 "
-Reads  the keyset, and lines on standard input: seal HEX HEX and dseal HEX HEX (a text, its
-       associated data), open HEX HEX and dopen HEX HEX, reseal HEX HEX and dreseal HEX HEX,
-       tag HEX, verify HEX HEX (a tag, its text), derive N HEX, add NAME and rotate NAME (a
-       template), promote N, enable N, disable N, destroy N, delete N (a key id); - stands
-       for no bytes
+Reads  the keyset, and lines on standard input; bytes are hexadecimal, and - stands for none
 Gives  one reply for each line, on standard output: ok and what the line gives, or no and
        the reason, and the session goes on; and then the last keyset in the new file of
-       --out. Without --out, or if the session is killed or fails, its edits are lost, and
-       what was sealed or tagged under a key that it made never opens or verifies again
+       --out
+
+Lines, with the reply to each:
+  seal TEXT AD, open TEXT AD: ok BYTES
+      as the commands seal and open; AD are the associated data
+  dseal TEXT AD, dopen TEXT AD: ok BYTES
+      as dseal and dopen
+  reseal TEXT AD, dreseal TEXT AD: ok BYTES
+      opens, and seals again under the primary key
+  tag TEXT: ok BYTES
+      as tag
+  verify TAG TEXT: ok
+      as verify
+  derive N TEXT: ok BYTES
+      derives N bytes
+  add NAME, rotate NAME: ok ID
+      adds a key of the template; rotate makes it the primary. ID is its key id
+  promote ID, enable ID, disable ID, destroy ID, delete ID: ok
+      the edit of that name
+  save FILE: ok
+      makes a new file of the keyset as it is now, in the form of --out-format, and with
+      --master encrypted; the reply comes once the file lasts
+  any line that is rejected: no REASON
+      nothing changes, and the session goes on
+
+Why a line is refused:
+  no bad line
+      to any: not a line of the table above: a word too many or too few, an odd number of
+      digits, two spaces
+  no open failed
+      to open, dopen, reseal, dreseal: no enabled key of the keyset opens the text with this
+      AD
+  no verify failed
+      to verify: no enabled key of the keyset makes this tag of this text
+  no output too long: N over M
+      to derive: the key derives at most M bytes
+  no key N has no manager for this command, no key N is not valid: RULE, no key N is not RAW
+      to all but edits: the keyset has an enabled key that can't do this work. N counts from
+      0; the last reply comes to derive alone
+  no unknown key template, no asymmetric key template
+      to add, rotate: NAME is no template, or one for asymmetric keys
+  no key of another primitive, no no free key id, no too many keys
+      to add, rotate: as for the commands
+  no key not found
+      to edits by ID: no key has the id
+  no key is primary
+      to disable, destroy, delete: make another key the primary first
+  no key is not enabled
+      to promote: enable it first
+  no key is destroyed
+      to enable, disable: its material is gone
+  no key refused: RULE, no key of another primitive
+      to enable: the key's message can't be used in this keyset
+  no primary would be ambiguous
+      to promote, enable: another key has this id
+  no output file exists
+      to save: anything has the name: no file is ever replaced
+  no keyset too long
+      to save: as it is written it would be too long to be read again
+  no store fault
+      to save: the file couldn't be made: its folder isn't there, permission is missing, the
+      disk is full
 " codes_012345678 "  tinkey create-keyset --key-template AES256_GCM --out session.json
-  (echo seal 00 -; echo rotate AES256_GCM) |
+  (echo rotate AES256_GCM; echo save rotated-session.json; echo seal 00 -) |
       tinkey session --keyset session.json --out after.json
 "),
         CommandName::Selftest => text!([] "\

@@ -1,6 +1,6 @@
 -- What was made under a key, read over any keyset that has it.
 use Rattle.std.proofs.Common.{arith, ◌≡◌, ◌∙◌, sym, refl, ap, subst, false, ℕ, ◌≤◌, ◌∷◌, [], List, length, Some, None, Ok, Err, option_map}
-use Rattle.std.specs.Prelude.{take, drop, slice_get}
+use Rattle.std.specs.Prelude.{take, drop}
 use Rattle.key_msgs.specs.KeyTypes.{primitive_of_type, url_of_type}
 use Rattle.key_msgs.specs.Templates.{Row, row_named, type_made}
 use Rattle.key_msgs.specs.declared.primitive.Primitive.TheVariants.{Aead, Daead, Mac}
@@ -29,7 +29,8 @@ use Rattle.tinkey_session.proofs.Options.{map_some}
 use Rattle.tinkey_session.proofs.TurnLemmas.{reached}
 use Rattle.tinkey_session.specs.Laws.{KeptDopen, KeptDopenPresent, KeptOpen, KeptOpenPresent, KeptTag}
 use Rattle.tinkey_session.specs.Serving.{Served, sealed_reply, serve}
-use Rattle.tinkey_session.specs.Session.{Turn, asked_in, turns}
+use Rattle.tinkey_session.specs.Saving.{Form, StoreAnswers}
+use Rattle.tinkey_session.specs.Session.{Turn, asked_in}
 use Rattle.tinkey_session.specs.declared.reply.Reply.TheVariants.{Gives}
 use Rattle.wrapped_prims.specs.Answers.{dseal_answer, open_answer, seal_answer, tag_answer}
 use Rattle.wrapped_prims.specs.Fitness.{unfit}
@@ -66,11 +67,11 @@ use Rattle.tinkey_readable.proofs.WrappedRunLemmas.{behind_files, form_within, g
 use Rattle.tinkey_readable.specs.Anywhere.{DopensAnywhere, DopensSomehowAnywhere, IsReadAnywhere, IsReadSomehowAnywhere, IsTaken, OpensAnywhere, OpensEnvelopeAnywhere, OpensFirstAnywhere, OpensRangeAnywhere, OpensSomehowAnywhere, OpensStreamAnywhere, ServesStreams, UnwrapsAnywhere, VerifiesAnywhere, WasMadeBy, by_call, by_line, by_locked, by_locked_line, by_run, ServesEnvelopes}
 use Rattle.tinkey_readable.specs.Calls.{CallsGive, IsHandle, asked_by, input_of}
 use Rattle.tinkey_readable.specs.EnvelopeRuns.{IsEnveloped, MakeOneType, WasEnveloped}
-use Rattle.tinkey_readable.specs.LineRuns.{asks, done_reply}
+use Rattle.tinkey_readable.specs.LineRuns.{IsTurnAt, asks, done_reply}
 use Rattle.tinkey_readable.specs.LockedRuns.{IsDoneUnder}
 use Rattle.tinkey_readable.specs.Lying.{Lies, LiesAs, Lying, lock_in}
 use Rattle.tinkey_readable.specs.RangeRuns.{IsRanged}
-use Rattle.tinkey_readable.specs.Runs.{IsDone, IsFree, ReadIsStored, bytes_at}
+use Rattle.tinkey_readable.specs.Runs.{IsDone, IsFree, ReadIsStored, bytes_at, saving_lines}
 use Rattle.tinkey_readable.specs.StreamRuns.{IsOpened, NoOtherBefore, WasSealed}
 use Rattle.tinkey_words.specs.Words.{AskedEnvelope, AskedWork, primitive_for, to_dopen, to_dseal, to_eopen, to_eseal, to_open, to_seal, to_tag, to_verify}
 use Rattle.tinkey_plans.specs.UnfitKeys.{unfit_key}
@@ -86,10 +87,10 @@ pub record Maker (input : List ℕ) (most : ℕ) (Makes : Keys → Type 0) (r : 
 
 unfoldable pub line_maker : (work : AskedWork) (input output : List ℕ) (r : Record) (Makes : Keys → Type 0)
     → ((keys : Keys) (random : List ℕ) (x : Served) → serve standard_table keys (asks work input) random ≡ Some x → x.reply ≡ Gives output → Makes keys)
-    → (keys : Keys) (told : Told) (place : ℕ) (t : Turn) → slice_get (turns standard_table keys (asked_in told.input) told.random) place ≡ Some t → length input ≤ limit_for work → t.line ≡ asks work input → t.reply ≡ Gives output → primary_of t.before ≡ Some r
+    → (form : Form) (answers : StoreAnswers) (keys : Keys) (told : Told) (place : ℕ) (t : Turn) → IsTurnAt form answers keys told place t → length input ≤ limit_for work → t.line ≡ asks work input → t.reply ≡ Gives output → primary_of t.before ≡ Some r
     → Maker input (limit_for work) Makes r
-line_maker work input output r Makes of_line keys told place t there short line reply primary =
-    let at = reached standard_table (asked_in told.input) keys told.random place t there in
+line_maker work input output r Makes of_line form answers keys told place t there short line reply primary =
+    let at = reached standard_table (saving_lines standard_table form answers keys (asked_in told.input) told.random) keys told.random place t there in
     record {
       old = t.before;
       primary = primary;
@@ -114,8 +115,8 @@ maker fit work input output r Makes of_run of_line of_call (by_locked master tex
       short = subst (λ i. length i ≤ limit_for work) same b.fits;
       makes = of_run old told (sealed_is_keyset over text old gives) b same;
     }
-maker fit work input output r Makes of_run of_line of_call (by_line before told t has short line reply primary) = line_maker work input output r Makes of_line has.keys told has.place t has.there short line reply primary
-maker fit work input output r Makes of_run of_line of_call (by_locked_line master text told t has short line reply primary) = line_maker work input output r Makes of_line has.keys told has.place t has.there short line reply primary
+maker fit work input output r Makes of_run of_line of_call (by_line before told t has short line reply primary) = line_maker work input output r Makes of_line has.form has.answers has.keys told has.place t has.there short line reply primary
+maker fit work input output r Makes of_run of_line of_call (by_locked_line master text told t has short line reply primary) = line_maker work input output r Makes of_line has.form has.answers has.keys told has.place t has.there short line reply primary
 maker fit work input output r Makes of_run of_line of_call (by_call was short) = record {
   old = was.keys;
   primary = was.primary;
@@ -130,10 +131,10 @@ call_reads : (work : AskedWork) (input : List ℕ) (P : List ℕ → Type 0) (ke
 call_reads work input P keys ready handle a = calls_give work keys ready input a.other handle a.of_call
 
 -- by a line over some keyset
-line_reads : (work : AskedWork) (input : List ℕ) (P : List ℕ → Type 0) (keys : Keys) (told : Told) (place : ℕ) (t : Turn) → slice_get (turns standard_table keys (asked_in told.input) told.random) place ≡ Some t → t.line ≡ asks work input → unfit t.before (primitive_for work) standard_table ≡ None
+line_reads : (work : AskedWork) (input : List ℕ) (P : List ℕ → Type 0) (form : Form) (answers : StoreAnswers) (keys : Keys) (told : Told) (place : ℕ) (t : Turn) → IsTurnAt form answers keys told place t → t.line ≡ asks work input → unfit t.before (primitive_for work) standard_table ≡ None
     → (a : Answers work input P t.before) → t.reply ≡ done_reply work a.other
-line_reads work input P keys told place t there line fit a =
-    let at = reached standard_table (asked_in told.input) keys told.random place t there in
+line_reads work input P form answers keys told place t there line fit a =
+    let at = reached standard_table (saving_lines standard_table form answers keys (asked_in told.input) told.random) keys told.random place t there in
     at.reply ∙ a.of_line at.random at.served fit (subst (λ asked. serve standard_table t.before asked at.random ≡ Some at.served) line at.is)
 
 pub read_over : {While : Record → Keys → Type 0} (work : AskedWork) (input output : List ℕ) (r : Record) → length input ≤ limit_for work → ((keys : Keys) → While r keys → Answers work input (λ other. other ≡ output) keys) → IsReadAnywhere While work input output r
@@ -146,10 +147,10 @@ read_over work input output r fits answers = record {
       subst (λ o. IsDoneUnder work master text input o) a.is (finished_under work master text keys input a.other serves fits a.of_run);
   by_line = λ written told t has line fit while'.
       let a = answers t.before while' in
-      line_reads work input (λ other. other ≡ output) has.keys told has.place t has.there line fit a ∙ ap (done_reply work) a.is;
+      line_reads work input (λ other. other ≡ output) has.form has.answers has.keys told has.place t has.there line fit a ∙ ap (done_reply work) a.is;
   by_locked_line = λ master text told t has line fit while'.
       let a = answers t.before while' in
-      line_reads work input (λ other. other ≡ output) has.keys told has.place t has.there line fit a ∙ ap (done_reply work) a.is;
+      line_reads work input (λ other. other ≡ output) has.form has.answers has.keys told has.place t has.there line fit a ∙ ap (done_reply work) a.is;
   by_call = λ keys ready handle while'.
       let a = answers keys while' in
       subst (λ o. CallsGive work ready input o) a.is (call_reads work input (λ other. other ≡ output) keys ready handle a);
@@ -165,10 +166,10 @@ read_somehow_over work input r fits answers = record {
       (a.other, finished_under work master text keys input a.other serves fits a.of_run);
   by_line = λ written told t turn line fit has.
       let a = answers t.before has in
-      (a.other, line_reads work input (λ other. Unit {0}) turn.keys told turn.place t turn.there line fit a);
+      (a.other, line_reads work input (λ other. Unit {0}) turn.form turn.answers turn.keys told turn.place t turn.there line fit a);
   by_locked_line = λ master text told t turn line fit has.
       let a = answers t.before has in
-      (a.other, line_reads work input (λ other. Unit {0}) turn.keys told turn.place t turn.there line fit a);
+      (a.other, line_reads work input (λ other. Unit {0}) turn.form turn.answers turn.keys told turn.place t turn.there line fit a);
   by_call = λ keys ready handle has.
       let a = answers keys has in
       (a.other, call_reads work input (λ other. Unit {0}) keys ready handle a);

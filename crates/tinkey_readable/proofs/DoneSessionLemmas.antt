@@ -1,36 +1,40 @@
 -- Where a session is answered Done.
-use Rattle.std.proofs.Common.{◌≡◌, ◌∙◌, sym, refl, ap, ℕ, true, List, [], Option, Some, None}
-use Rattle.std.specs.FinMap as map
+use Rattle.std.proofs.Common.{◌≡◌, ◌∙◌, sym, refl, ap, ℕ, List, [], Option, Some, None}
 use Rattle.keyset_model.specs.Keyset.{Keys}
 use Rattle.managers.specs.Table.{Table}
-use Rattle.tinkey_session.specs.Talking.{Stop, Talk, goes, long_line, many_lines, passes, talk, wants}
+use Rattle.tink_spec.specs.Files.{Files}
+use Rattle.tinkey_session.specs.Saving.{FileAsked, files_after}
+use Rattle.tinkey_session.specs.Talking.{Stop, Talk, goes, long_line, many_lines, passes, wants}
 use Rattle.tinkey_plans.specs.declared.origin.Origin.TheVariants as origins
 use Rattle.tinkey_plans.specs.declared.status.Status.TheVariants as status
 use Rattle.tinkey_plans.specs.Commands.{command_plan}
 use Rattle.tinkey_plans.specs.Plan.{Answer, Plan, Told, answer, exchanges, look_answer, refused, talk_answer}
-use Rattle.tinkey_plans.specs.Session.{finds_free, holds_session, saves, saves_as}
+use Rattle.tinkey_plans.specs.Session.{finds_free, holds_session, saves, saves_as, saving_session}
 use Rattle.tinkey_words.specs.declared.words.rows.Format.{Format}
 use Rattle.tinkey_words.specs.Words.{Lock, KeysetFile, session}
 use Rattle.tinkey_plans.specs.Locks.{takes_under}
 use Rattle.tinkey_readable.specs.DoneWhere.{IsSavedWithin, SessionGoes, SessionsDone}
-use Rattle.tinkey_readable.specs.Runs.{IsFree}
+use Rattle.tinkey_readable.specs.Lying.{LiesThere, OpensLock}
+use Rattle.tinkey_readable.specs.Runs.{IsFree, told_session}
+use Rattle.tinkey_readable.proofs.FilesAfterLemmas.{absent_first}
 use Rattle.tinkey_readable.proofs.LyingLemmas.{lock_reached, lock_there, put_comes, put_there, takes_reached, takes_there}
 use Rattle.tinkey_readable.proofs.ReachLemmas.{IsDoneAnswer}
 use Rattle.tinkey_readable.proofs.RunLemmas.{free_done}
 
 -- ---- the name of a new file
 
-looked_free : (file : Option (List ℕ)) (next : Unit {0} → Plan) (told : Told) → IsDoneAnswer (answer (finds_free file next) told) → IsFree file told.files
-looked_free None next told done = tt
-looked_free (Some name) next told done = by (map.get told.files name) done
-  where
-    by : (found : Option (List ℕ)) → IsDoneAnswer (look_answer found (refused told status.OutExists) (answer (next tt) told)) → found ≡ None
-    by None done = refl
-    by (Some there) done = absurd (cc)
+-- one that is free behind the files that were asked for was free before
+free_first : (file : Option (List ℕ)) (files : Files) (asked : List FileAsked) → IsFree file (files_after files asked) → IsFree file files
+free_first None files asked free = tt
+free_first (Some name) files asked free = absent_first files asked name free
 
 look_reached : (file : Option (List ℕ)) (next : Unit {0} → Plan) (told : Told) → IsFree file told.files → answer (finds_free file next) told ≡ answer (next tt) told
 look_reached None next told free = refl
 look_reached (Some name) next told free = ap (λ (found : Option (List ℕ)). look_answer found (refused told status.OutExists) (answer (next tt) told)) free
+
+saved_free : (table : Table) (master : Option Keys) (file : Option (List ℕ)) (form : Format) (keys : Keys) (told : Told) → IsDoneAnswer (answer (saves_as table master file form keys) told) → IsFree file told.files
+saved_free table master None form keys told done = tt
+saved_free table master (Some name) form keys told done = (put_there table master (record { file = Some name; form = form }) keys told done).1
 
 saved_within : (table : Table) (master : Option Keys) (file : Option (List ℕ)) (form : Format) (keys : Keys) (told : Told) → IsDoneAnswer (answer (saves_as table master file form keys) told) → IsSavedWithin table master file form keys told.random
 saved_within table master None form keys told done = tt
@@ -45,21 +49,26 @@ save_reached table master (Some name) form keys told fits free = put_comes table
 -- the answer by how the session stands at the end of its input
 abbrev pub stands : Table → Option Keys → Keys → KeysetFile → Told → Stop → Answer
 stands table master keys out told stop =
-    let x = talk table keys told.input told.random true in
-    talk_answer stop x told (answer (saves table master out x.keys) (record told { input = []; random = x.random }))
+    let x = told_session table master out.form keys told in
+    let made = record told { files = files_after told.files x.asked } in
+    talk_answer stop x made (answer (saves table master out x.keys) (record made { input = []; random = x.random }))
 
 record Held (table : Table) (master : Option Keys) (keys : Keys) (out : KeysetFile) (told : Told) : Type 0 where
-  goes_on : (talk table keys told.input told.random true).stop ≡ goes
-  saved : IsSavedWithin table master out.file out.form (talk table keys told.input told.random true).keys (talk table keys told.input told.random true).random
+  goes_on : (told_session table master out.form keys told).stop ≡ goes
+  free : IsFree out.file (files_after told.files (told_session table master out.form keys told).asked)
+  saved : IsSavedWithin table master out.file out.form (told_session table master out.form keys told).keys (told_session table master out.form keys told).random
 
-held : (table : Table) (master : Option Keys) (keys : Keys) (out : KeysetFile) (told : Told) → IsDoneAnswer (answer (exchanges (talk table keys) (saves table master out)) told) → Held table master keys out told
+held : (table : Table) (master : Option Keys) (keys : Keys) (out : KeysetFile) (told : Told) → IsDoneAnswer (answer (exchanges (saving_session table master out.form keys) (saves table master out)) told) → Held table master keys out told
 held table master keys out told done = by x.stop refl done
   where
     x : Talk
-    x = talk table keys told.input told.random true
+    x = told_session table master out.form keys told
+
+    left : Told
+    left = record told { files = files_after told.files x.asked; input = []; random = x.random }
 
     by : (stop : Stop) → x.stop ≡ stop → IsDoneAnswer (stands table master keys out told stop) → Held table master keys out told
-    by goes is done = record { goes_on = is; saved = saved_within table master out.file out.form x.keys (record told { input = []; random = x.random }) done }
+    by goes is done = record { goes_on = is; free = saved_free table master out.file out.form x.keys left done; saved = saved_within table master out.file out.form x.keys left done }
     by wants is done = absurd (cc)
     by (passes long_line) is done = absurd (cc)
     by (passes many_lines) is done = absurd (cc)
@@ -78,30 +87,36 @@ session_is table lock name form out told is =
     let keys = k.0 in
     let loaded = takes_reached origins.Keyset table master place keys (holds_session table master out) told k.1 in
     let whole : IsDoneAnswer (answer (holds_session table master out keys) told) = ap (λ (a : Answer). a.status) (sym loaded) ∙ d in
-    let free = free_done out.file (λ free. exchanges (talk table keys) (saves table master out)) told whole in
+    let free = free_done out.file (λ free. exchanges (saving_session table master out.form keys) (saves table master out)) told whole in
     let h = held table master keys out told (ap (λ (a : Answer). a.status) (sym free) ∙ whole) in
     record {
       master = master;
       opens = o.1;
       keys = keys;
       lies = k.1;
-      free = looked_free out.file (λ free. exchanges (talk table keys) (saves table master out)) told whole;
       goes_on = h.goes_on;
+      free = h.free;
       saved = h.saved;
     }
 
+-- behind the lock, the keyset and a name that is free
+pub session_reached : (table : Table) (lock : Lock) (name : List ℕ) (form : Format) (out : KeysetFile) (told : Told) (master : Option Keys) (keys : Keys) → OpensLock table lock told master → LiesThere table master (record { file = Some name; form = form }) told keys → IsFree out.file told.files
+    → answer (command_plan table (session lock name form out)) told ≡ stands table master keys out told (told_session table master out.form keys told).stop
+session_reached table lock name form out told master keys opens lies free =
+    lock_reached table lock master (session_behind table name form out) told opens
+    ∙ takes_reached origins.Keyset table master (record { file = Some name; form = form }) keys (holds_session table master out) told lies
+    ∙ look_reached out.file (λ free. exchanges (saving_session table master out.form keys) (saves table master out)) told free
+
 pub session_answers : (table : Table) (lock : Lock) (name : List ℕ) (form : Format) (out : KeysetFile) (told : Told) (x : SessionGoes table lock name form out told) → answer (command_plan table (session lock name form out)) told ≡ stands table x.master x.keys out told goes
 session_answers table lock name form out told x =
-    lock_reached table lock x.master (session_behind table name form out) told x.opens
-    ∙ takes_reached origins.Keyset table x.master (record { file = Some name; form = form }) x.keys (holds_session table x.master out) told x.lies
-    ∙ look_reached out.file (λ free. exchanges (talk table x.keys) (saves table x.master out)) told x.free
+    session_reached table lock name form out told x.master x.keys x.opens x.lies (free_first out.file told.files (told_session table x.master out.form x.keys told).asked x.free)
     ∙ ap (stands table x.master x.keys out told) x.goes_on
 
 session_comes : (table : Table) (lock : Lock) (name : List ℕ) (form : Format) (out : KeysetFile) (told : Told) → SessionGoes table lock name form out told → IsDoneAnswer (answer (command_plan table (session lock name form out)) told)
 session_comes table lock name form out told x =
-    let t = talk table x.keys told.input told.random true in
+    let t = told_session table x.master out.form x.keys told in
     ap (λ (a : Answer). a.status) (session_answers table lock name form out told x)
-    ∙ save_reached table x.master out.file out.form t.keys (record told { input = []; random = t.random }) x.saved x.free
+    ∙ save_reached table x.master out.file out.form t.keys (record told { files = files_after told.files t.asked; input = []; random = t.random }) x.saved x.free
 
 pub sessions_done : SessionsDone
 sessions_done table lock name form out told = (session_is table lock name form out told, session_comes table lock name form out told)

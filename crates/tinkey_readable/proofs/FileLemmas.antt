@@ -1,5 +1,5 @@
 -- No run takes a file away, however it ends.
-use Rattle.std.proofs.Common.{◌≡◌, ◌∙◌, inl, inr, refl, sym, ap, subst, ℕ, Bool, true, cond, Ordering, Less, Equal, Greater, List, Option, Some, None, option_map}
+use Rattle.std.proofs.Common.{◌≡◌, ◌∙◌, inl, inr, refl, sym, ap, subst, ℕ, Bool, true, cond, Ordering, Less, Equal, Greater, List, [], ◌∷◌, Option, Some, None, option_map}
 use Rattle.std.specs.Prelude.{IfSome}
 use Rattle.std.specs.FinMap as map
 use Rattle.std.specs.Ordering.{is_eq}
@@ -9,6 +9,8 @@ use Rattle.std.proofs.lemmas.Map.Lookups.{exact_bytes}
 use Rattle.std.proofs.lemmas.Option.{same_Some}
 use Rattle.tink_spec.specs.Files.{Added, Files, KeptFiles, MayAdd, StoreState}
 use Rattle.tinkey_session.proofs.Options.{clash, no_truth}
+use Rattle.tinkey_session.specs.Saving.{AsksFor, Asks, FileAsked}
+use Rattle.tinkey_session.specs.Saving as saving
 use Rattle.tinkey_plans.specs.Ends.{Ends, World, wrote, write_failed, made, name_taken, create_failed, create_starved, look_free, look_taken, look_failed, loaded, load_absent, load_long, load_failed, load_starved, ranged, range_absent, range_failed, range_starved, read, too_long, read_failed, read_starved, front_read, front_failed, settled, draw_failed, draw_starved, collected, collect_refused, collect_unread, collect_unkept, exchanged, exchange_ended}
 use Rattle.tinkey_plans.specs.Plan.{Plan, ends, writes, creates, looks, allocates, loads, reads_all, reads_front, ranges, draws, pumps, collects, exchanges}
 use Rattle.tinkey_plans.specs.declared.status.Status.{Status}
@@ -22,7 +24,7 @@ equal_is Equal e = refl
 equal_is Greater e = no_truth e
 
 -- another file with a free name leaves it
-inserted : (files : Files) (name bytes new output : List ℕ) → map.get files new ≡ None → map.get files name ≡ Some bytes → map.get (map.insert files new output) name ≡ Some bytes
+pub inserted : (files : Files) (name bytes new output : List ℕ) → map.get files new ≡ None → map.get files name ≡ Some bytes → map.get (map.insert files new output) name ≡ Some bytes
 inserted files name bytes new output free at =
     map.get-insert nat_list_cmp_total files new output name
     ∙ ap (λ (b : Bool). cond b (Some output) (map.get files name)) (false_from_ne_true _ (λ same.
@@ -46,13 +48,22 @@ may_has : (old new : StoreState) (name bytes added output : List ℕ) → MayAdd
 may_has old new name bytes added output (inl kept) has = kept_has old new name bytes kept has
 may_has old new name bytes added output (inr front) has = added_has old new name bytes added front.front front.added has
 
+pub asked_has : (a : FileAsked) (old new : StoreState) (name bytes : List ℕ) → AsksFor a old new → Has old name bytes → Has new name bytes
+asked_has a old new name bytes (saving.made why added stood given) has = added_has old new name bytes a.name a.bytes added has
+asked_has a old new name bytes (saving.there why holds same) has = same_has old new name bytes same has
+asked_has a old new name bytes (saving.failed why may rose given) has = may_has old new name bytes a.name a.bytes may has
+
+asks_has : (asked : List FileAsked) (old new : StoreState) (name bytes : List ℕ) → Asks asked old new → Has old name bytes → Has new name bytes
+asks_has [] old new name bytes same has = same_has old new name bytes same has
+asks_has (a ∷ asked) old new name bytes (mid, first, later) has = asks_has asked mid new name bytes later (asked_has a old mid name bytes first has)
+
 pub has_once : (store : StoreState) (name a b : List ℕ) → Has store name a → Has store name b → a ≡ b
 has_once store name a b (first, is, at) (second, too, there) =
     same_Some _ _ (sym at ∙ ap (λ (f : Files). map.get f name) (same_Some _ _ (sym is ∙ too)) ∙ there)
 
 -- ---- a plan
 
-stays : (p : Plan) (old : World) (s : Status) (new : World) (name bytes : List ℕ) → Ends p old s new → Has old.store name bytes → Has new.store name bytes
+pub stays : (p : Plan) (old : World) (s : Status) (new : World) (name bytes : List ℕ) → Ends p old s new → Has old.store name bytes → Has new.store name bytes
 stays (ends answered stated) old s new name bytes (is, same) has = subst (λ (w : World). Has w.store name bytes) same has
 stays (writes output) old s new name bytes (wrote is only stood took) has = same_has _ _ name bytes only.store has
 stays (writes output) old s new name bytes (write_failed is only rose front) has = same_has _ _ name bytes only.store has
@@ -88,8 +99,8 @@ stays (collects part next) old s new name bytes (collected all source store gave
 stays (collects part next) old s new name bytes (collect_refused taken ended refusal is kept_draft source store end decided lasting) has = kept_has _ _ name bytes kept_draft.kept has
 stays (collects part next) old s new name bytes (collect_unread taken is kept_draft rose store none) has = kept_has _ _ name bytes kept_draft.kept has
 stays (collects part next) old s new name bytes (collect_unkept taken ended is kept_draft source rose some) has = kept_has _ _ name bytes kept_draft.kept has
-stays (exchanges exchange next) old s new name bytes (exchanged keys mid talk store steady run) has = stays (next keys) mid s new name bytes run (same_has _ _ name bytes store has)
-stays (exchanges exchange next) old s new name bytes (exchange_ended fault is talk store steady) has = same_has _ _ name bytes store has
+stays (exchanges exchange next) old s new name bytes (exchanged keys mid talk steady run) has = stays (next keys) mid s new name bytes run (asks_has talk.asked old.store mid.store name bytes talk.asks has)
+stays (exchanges exchange next) old s new name bytes (exchange_ended fault is talk steady) has = asks_has talk.asked old.store new.store name bytes talk.asks has
 
 pub files_stay : FilesStay
 files_stay table words old s new name bytes promised has = stays _ old s new name bytes promised.ends has

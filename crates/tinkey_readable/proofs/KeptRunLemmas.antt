@@ -26,7 +26,7 @@ use Rattle.tinkey_session.proofs.TurnLemmas.{same_Ok}
 use Rattle.tinkey_session.specs.HeldLaws.{AreStored, FirstsAreStored}
 use Rattle.tinkey_session.specs.KeptKeys.{HasData, HasDistinctIds, Spares, SparesData, SparesKey}
 use Rattle.tinkey_session.specs.Laws.{kept}
-use Rattle.tinkey_session.specs.Session.{Remains, asked_in, remains}
+use Rattle.tinkey_session.specs.Session.{Remains, remains}
 use Rattle.wrapped_prims.specs.Candidates.{is_enabled_with, prefix_of}
 use Rattle.wrapped_prims.specs.Laws.{HasKey, HasSameKey}
 use Rattle.wrapped_prims.specs.Making.{HasWordId}
@@ -42,7 +42,7 @@ use Rattle.tinkey_readable.proofs.LockedRunLemmas.{EachUnder, StepLaws, UnderSea
 use Rattle.tinkey_readable.proofs.ReachLemmas.{found_row, made_done, put_done}
 use Rattle.tinkey_readable.proofs.RunLemmas.{each_of, hands_within, template_row, kept as keyset_written}
 use Rattle.tinkey_readable.specs.KeptRuns.{CommandIdsStayDistinct, CreatedIdsAreDistinct, CreatedUnderLock, CreatesFirst, CreatesThis, DataStaysByCommands, Event, EventDraws, GivenBackByEnable, GivenBackUnderLock, HaveLed, HasLed, IsPut, KeptByCommands, KeptByItsIdAlone, HavePassed, OfAsked, OfEvent, OfEvents, OfLocked, Passes, PassesOn, PassesUnder, PassesWrapped, StaysIn, TookPlace, WrapsFirst, passed_by, passed_on, passed_wrapped}
-use Rattle.tinkey_readable.specs.Runs.{AreLocked, CreatesUnder, Does, DrawsBytes, GoesLocked, Handing, Hands, HandsOn, HandsUnder, HoldsBytes, ReadIsStored, Run, RunStep, Wraps, Written, bytes_at, keyset_of}
+use Rattle.tinkey_readable.specs.Runs.{AreLocked, CreatesUnder, Does, DrawsBytes, GoesLocked, Handing, Hands, HandsOn, HandsUnder, HoldsBytes, ReadIsStored, Run, RunStep, Wraps, Written, bytes_at, keyset_of, master_told, told_lines}
 use Rattle.tinkey_words.specs.declared.words.rows.Format.{Format}
 use Rattle.tinkey_words.specs.Words.{Asked, AskedEdit, Lock, KeysetFile, create_keyset, edit_keyset, list_keyset, key_of, convert_keyset, list_key_templates, use_keyset, use_envelope, use_stream, open_range, self_test, session, help, version}
 
@@ -51,7 +51,7 @@ use Rattle.tinkey_words.specs.Words.{Asked, AskedEdit, Lock, KeysetFile, create_
 -- what the edit of a run leaves has this, and what its session does
 record EachDone (P : Keys → Type 0) (table : Table) (told : Told) (old : Keys) (asked : Asked) : Type 0 where
   by_edit : (lock : Lock) (edit : AskedEdit) (in' out : KeysetFile) → asked ≡ edit_keyset lock edit in' out → (e : Edit) → Follows edit e → (s : Stepped) → step old e told.random ≡ Some s → P (kept old s.answer)
-  by_session : (lock : Lock) (name : List ℕ) (form : Format) (out : KeysetFile) → asked ≡ session lock name form out → (m : Remains) → remains table old (asked_in told.input) told.random ≡ Some m → P m.keys
+  by_session : (lock : Lock) (name : List ℕ) (form : Format) (out : KeysetFile) → asked ≡ session lock name form out → (m : Remains) → remains table old (told_lines table (master_told lock told) out.form old told) told.random ≡ Some m → P m.keys
 
 -- any other run that hands a keyset on leaves it
 run_keeps : (P : Keys → Type 0) (table : Table) (told : Told) (asked : Asked) (old new : Keys) → P old → EachDone P table told old asked → Does table told old new asked → P new
@@ -74,13 +74,13 @@ run_keeps P table told version old new p each does = absurd does
 key_done : (table : Table) (r : Record) (prefix : List ℕ) → HasWordId r → prefix_of r ≡ Some prefix → (told : Told) (old : Keys) (asked : Asked) → HasSameKey r old → OfAsked (SparesKey r) old told asked → EachDone (HasSameKey r) standard_table told old asked
 key_done table r prefix word has told old asked key spares = record {
   by_edit = λ lock edit in' out is e follows s steps. kept_by_edits old r prefix e told.random s word has key steps (if_ok s.answer (follows_key r old edit e follows (subst (OfAsked (SparesKey r) old told) is spares)));
-  by_session = λ lock name form out is m. kept_by_session standard_table old r prefix (asked_in told.input) told.random m word has key (subst (OfAsked (SparesKey r) old told) is spares);
+  by_session = λ lock name form out is m. kept_by_session standard_table old r prefix (told_lines standard_table (master_told lock told) out.form old told) told.random m word has key (subst (OfAsked (SparesKey r) old told) is spares);
 }
 
 distinct_done : (told : Told) (old : Keys) (asked : Asked) → HasDistinctIds old → EachDone HasDistinctIds standard_table told old asked
 distinct_done told old asked apart = record {
   by_edit = λ lock edit in' out is e follows s. ids_stay_distinct old e told.random s apart;
-  by_session = λ lock name form out is m. session_ids_stay_distinct standard_table old (asked_in told.input) told.random m apart;
+  by_session = λ lock name form out is m. session_ids_stay_distinct standard_table old (told_lines standard_table (master_told lock told) out.form old told) told.random m apart;
 }
 
 -- the key is alone, and ids are distinct
@@ -90,7 +90,7 @@ IsAlone r keys = HasDistinctIds keys × HasSameKey r keys
 alone_done : (r : Record) (prefix : List ℕ) → prefix_of r ≡ Some prefix → (told : Told) (old : Keys) (asked : Asked) → IsHeld r old → OfAsked (λ keys. Spares r.id) old told asked → EachDone (IsAlone r) standard_table told old asked
 alone_done r prefix has told old asked held spares = record {
   by_edit = λ lock edit in' out is e follows s steps. of_held (held_by_edit old r prefix e told.random s has held steps (if_ok s.answer (follows.spares r.id (subst (OfAsked (λ keys. Spares r.id) old told) is spares))));
-  by_session = λ lock name form out is m left. of_held (held_by_session standard_table old r prefix (asked_in told.input) told.random m has held (subst (OfAsked (λ keys. Spares r.id) old told) is spares) left);
+  by_session = λ lock name form out is m left. of_held (held_by_session standard_table old r prefix (told_lines standard_table (master_told lock told) out.form old told) told.random m has held (subst (OfAsked (λ keys. Spares r.id) old told) is spares) left);
 }
   where
     of_held : {keys : Keys} → IsHeld r keys → IsAlone r keys
@@ -99,7 +99,7 @@ alone_done r prefix has told old asked held spares = record {
 data_done : (r : Record) (told : Told) (old : Keys) (asked : Asked) → HasData r old → OfAsked (λ keys. SparesData r.id) old told asked → EachDone (HasData r) standard_table told old asked
 data_done r told old asked h spares = record {
   by_edit = λ lock edit in' out is e follows s steps. data_stays old r e told.random s h steps (if_ok s.answer (follows.data' r.id (subst (OfAsked (λ keys. SparesData r.id) old told) is spares)));
-  by_session = λ lock name form out is m. session_data_stays standard_table old r (asked_in told.input) told.random m h (subst (OfAsked (λ keys. SparesData r.id) old told) is spares);
+  by_session = λ lock name form out is m. session_data_stays standard_table old r (told_lines standard_table (master_told lock told) out.form old told) told.random m h (subst (OfAsked (λ keys. SparesData r.id) old told) is spares);
 }
 
 -- ---- a run as it took place
@@ -107,7 +107,7 @@ data_done r told old asked h spares = record {
 -- it is answered as stated
 answered_by : (run : Run) (old : World) (s : Status) (new : World) → TookPlace run old s new → IsStated s → IsAnswer (answer (command_plan standard_table run.asked) run.told) old s new
 answered_by run old s new took stated =
-    subst (λ (p : Plan). IsAnswer (answer p run.told) old s new) (ap (λ words. asked_plan standard_table words took.words) took.spelled) (took.promised.answer.over run.told took.tells stated)
+    subst (λ (p : Plan). IsAnswer (answer p run.told) old s new) (ap (λ words. asked_plan standard_table words took.words) took.spelled) (took.promised.answer.over run.told took.tells stated took.unsaved)
 
 -- what was put is what the answer puts
 put_by : (file : Option (List ℕ)) (old new : World) (a : Answer) (bytes : List ℕ) → IsAnswer a old status.Done new → IsPut file old new bytes → bytes_at file a.files a.output ≡ Some bytes

@@ -11,6 +11,7 @@ pub mod EndedLemmas
 pub mod EnvelopeResealLemmas
 pub mod EnvelopeRunLemmas
 pub mod FileLemmas
+pub mod FilesAfterLemmas
 pub mod HidingLemmas
 pub mod KeptRunLemmas
 pub mod KeptTextLemmas
@@ -30,6 +31,9 @@ pub mod ReadableLemmas
 pub mod ResealLemmas
 pub mod ResealedStreamLemmas
 pub mod RunLemmas
+pub mod SavedFormLemmas
+pub mod SavedLineLemmas
+pub mod SessionLineLemmas
 pub mod ReadBytesLemmas
 pub mod ReadIdLemmas
 pub mod RangeRunLemmas

@@ -16,28 +16,27 @@ use Rattle.tinkey_session.proofs.WithinLemmas.{all_within, within_limit}
 use Rattle.tinkey_session.specs.Lines.{Line, line_of}
 use Rattle.tinkey_session.specs.Reading.{IsWithin}
 use Rattle.tinkey_session.specs.Serving.{cannot_serve, Served, answered, by_handle, computed, opened_reply, serve, unless_unfit, verified_reply}
-use Rattle.tinkey_session.specs.Session.{Remains, Turn, asked_in, lines_of, remains, turn_then, turns}
-use Rattle.tinkey_session.specs.TalkLaws.{TalkIsTurns}
-use Rattle.tinkey_session.specs.Talking.{line_limit, talk}
+use Rattle.tinkey_session.specs.Session.{Remains, Turn, lines_of, remains, turn_then, turns}
+use Rattle.tinkey_session.specs.TalkLaws.{SavesAreTurns}
+use Rattle.tinkey_session.specs.Talking.{line_limit}
 use Rattle.tinkey_session.specs.declared.reply.Reply.{Reply}
 use Rattle.tinkey_session.specs.declared.reply.LineRefusal.TheVariants.{Refused}
 use Rattle.tinkey_session.specs.declared.reply.Reply.TheVariants.{Gives, Refuses}
 use Rattle.wrapped_prims.specs.Answers.{Sealed, dopen_answer, open_answer, seal_answer, verify_answer}
 use Rattle.wrapped_prims.specs.Fitness.{unfit}
 use Rattle.tinkey_plans.specs.declared.origin.Origin.TheVariants as origins
-use Rattle.tinkey_plans.specs.Laws.{IsSession}
 use Rattle.tinkey_plans.specs.Commands.{command_plan}
 use Rattle.tinkey_plans.specs.Plan.{Answer, Told, answer, exchanges, writes}
-use Rattle.tinkey_plans.specs.Session.{holds_session, saves}
+use Rattle.tinkey_plans.specs.Session.{holds_session, saves, saving_session}
 use Rattle.tinkey_plans.specs.Using.{limit_for, works}
 use Rattle.tinkey_words.specs.declared.words.rows.Format.{Format}
-use Rattle.tinkey_words.specs.Words.{Asked, AskedWork, Lock, KeysetFile, create_keyset, edit_keyset, list_keyset, key_of, convert_keyset, list_key_templates, use_keyset, use_envelope, use_stream, open_range, self_test, session, help, version, to_seal, to_open, to_dseal, to_dopen, to_reseal, to_dreseal, to_tag, to_verify, to_derive, primitive_for}
+use Rattle.tinkey_words.specs.Words.{Asked, AskedWork, KeysetFile, session, to_seal, to_open, to_dseal, to_dopen, to_reseal, to_dreseal, to_tag, to_verify, to_derive, primitive_for}
 use Rattle.ready_keysets.specs.Working.{answer as call_answer}
 use Rattle.ready_keysets.specs.declared.work.Work.{Work}
 use Rattle.tinkey_readable.proofs.CallLemmas.{call_dopens, call_opens, call_verifies}
 use Rattle.tinkey_readable.specs.Calls.{asked_by, input_of}
 use Rattle.tinkey_readable.specs.LineRuns.{asks, done_reply}
-use Rattle.tinkey_readable.specs.Runs.{Does, Handing, HandsOn, Run, Written, bytes_at, hands_on, keyset_of, read_in, session_handing}
+use Rattle.tinkey_readable.specs.Runs.{Does, Handing, HandsOn, Run, Written, bytes_at, hands_on, keyset_of, read_in, session_handing, told_lines}
 use Rattle.tinkey_readable.proofs.ReachLemmas.{IsDoneAnswer, load_done}
 use Rattle.tinkey_plans.specs.Sealers.{sealer_of}
 use Rattle.tinkey_plans.specs.declared.sealer.Unopened.TheVariants as unopened
@@ -88,33 +87,10 @@ turn_on table (line ∷ later) keys random (suc i) t m at e = elim (serve table 
       | Some x ↦ λ k h. turn_on table later x.keys x.left i t m k h
     ] at e
 
--- what is asked of a session
-record IsSessionAsked (asked : Asked) : Type 0 where
-  lock : Lock
-  name : List ℕ
-  form : Format
-  out : KeysetFile
-  is : session lock name form out ≡ asked
-
-session_asked : (asked : Asked) → IsSession asked → IsSessionAsked asked
-session_asked (session lock name form out) is = record { lock = lock; name = name; form = form; out = out; is = refl }
-session_asked (create_keyset lock template out) is = absurd is
-session_asked (edit_keyset lock edit in' out) is = absurd is
-session_asked (list_keyset lock in') is = absurd is
-session_asked (convert_keyset lock how in' out) is = absurd is
-session_asked (key_of lock name form kind ad) is = absurd is
-session_asked (list_key_templates primitive) is = absurd is
-session_asked (use_keyset lock name form work out) is = absurd is
-session_asked (use_envelope lock name form template work out) is = absurd is
-session_asked (use_stream lock name form work ad out) is = absurd is
-session_asked (open_range lock name form ad range out) is = absurd is
-session_asked (self_test seed lines) is = absurd is
-session_asked (help topic) is = absurd is
-session_asked version is = absurd is
-
 -- what a session does
-pub session_does : (table : Table) (told : Told) (old new : Keys) (asked : Asked) → IsSession asked → Does table told old new asked → (m : Remains) × (remains table old (asked_in told.input) told.random ≡ Some m) × (m.keys ≡ new)
-session_does table told old new asked is does = subst (λ a. Does table told old new a) (sym (session_asked asked is).is) does
+pub session_does : (table : Table) (told : Told) (old new : Keys) (asked : Asked) (name : List ℕ) (form : Format) (out : KeysetFile) → asked ≡ session None name form out → Does table told old new asked
+    → (m : Remains) × (remains table old (told_lines table None out.form old told) told.random ≡ Some m) × (m.keys ≡ new)
+session_does table told old new asked name form out is does = subst (λ a. Does table told old new a) is does
 
 -- ---- the lines of a session that was Done
 
@@ -122,7 +98,7 @@ abbrev AreShort : List (List ℕ) → Type 0
 AreShort lines = AllByRecursion (λ line. length line ≤ line_limit) lines
 
 -- they are within the limit of a line, since the session went to its end
-named_short : TalkIsTurns → (table : Table) (name : List ℕ) (form : Format) (out : KeysetFile) (file : Option (List ℕ)) (told : Told) (before : Written) (old : Keys) (h : Handing) → session_handing name form out file ≡ Some h
+named_short : SavesAreTurns → (table : Table) (name : List ℕ) (form : Format) (out : KeysetFile) (file : Option (List ℕ)) (told : Told) (before : Written) (old : Keys) (h : Handing) → session_handing name form out file ≡ Some h
     → IsDoneAnswer (answer (command_plan table (session None name form out)) told) → h.taken.form ≡ before.form → bytes_at h.taken.file told.files told.input ≡ Some before.bytes → keyset_of before ≡ Some old → AreShort (lines_of told.input)
 named_short law table name form out None told before old h e done form_is read is = clash e
 named_short law table name form out (Some file) told before old h e done form_is read is =
@@ -131,22 +107,14 @@ named_short law table name form out (Some file) told before old h e done form_is
     let there : map.get told.files name ≡ Some before.bytes = ap (λ (x : Handing). bytes_at x.taken.file told.files told.input) same ∙ read in
     let l = load_done origins.Keyset name form before.bytes old (holds_session table None out) told there (ap (λ x. read_in x before.bytes) form_same ∙ is) done in
     let whole : IsDoneAnswer (answer (holds_session table None out old) told) = ap (λ (a : Answer). a.status) (sym l) ∙ done in
-    let free = free_done out.file (λ free. exchanges (talk table old) (saves table None out)) told whole in
+    let free = free_done out.file (λ free. exchanges (saving_session table None out.form old) (saves table None out)) told whole in
     (talk_done law table None out old told (ap (λ (a : Answer). a.status) (sym free) ∙ whole)).short
 
--- a session under a lock hands nothing on
-session_short : TalkIsTurns → (table : Table) (lock : Lock) (name : List ℕ) (form : Format) (out : KeysetFile) (run : Run) (before after : Written) (old : Keys) → session lock name form out ≡ run.asked → HandsOn table run before after → keyset_of before ≡ Some old → AreShort (lines_of run.told.input)
-session_short law table None name form out run before after old is hands read =
+pub lines_short : SavesAreTurns → (table : Table) (run : Run) (before after : Written) (old : Keys) (name : List ℕ) (form : Format) (out : KeysetFile) → run.asked ≡ session None name form out → HandsOn table run before after → keyset_of before ≡ Some old → AreShort (lines_of run.told.input)
+lines_short law table run before after old name form out is hands read =
     let d = hands.handed in
-    named_short law table name form out out.file run.told before old hands.handing (ap hands_on is ∙ hands.hands)
-    (ap (λ a. (answer (command_plan table a) run.told).status) is ∙ d.done) d.read_form d.read read
-session_short law table (Some master) name form out run before after old is hands read =
-    let e : None ≡ Some hands.handing = ap hands_on is ∙ hands.hands in clash e
-
-pub lines_short : TalkIsTurns → (table : Table) (run : Run) (before after : Written) (old : Keys) → HandsOn table run before after → IsSession run.asked → keyset_of before ≡ Some old → AreShort (lines_of run.told.input)
-lines_short law table run before after old hands is read =
-    let s = session_asked run.asked is in
-    session_short law table s.lock s.name s.form s.out run before after old s.is hands read
+    named_short law table name form out out.file run.told before old hands.handing (ap hands_on (sym is) ∙ hands.hands)
+    (ap (λ a. (answer (command_plan table a) run.told).status) (sym is) ∙ d.done) d.read_form d.read read
 
 abbrev none_wrong : Line → Result Line (Unit {0})
 none_wrong line = Ok line

@@ -1,5 +1,5 @@
 -- What runs show of a keyset that they put under a master.
-use Rattle.std.proofs.Common.{arith, ◌≡◌, ◌∙◌, sym, refl, ap, subst, ℕ, ◌+◌, Bool, true, false, List, [], ◌++◌, length, min, take, drop, Option, Some, None}
+use Rattle.std.proofs.Common.{arith, ◌≡◌, ◌∙◌, sym, refl, ap, subst, ℕ, ◌+◌, Bool, false, List, [], ◌++◌, length, min, take, drop, map as each, Option, Some, None}
 use Rattle.std.specs.Prelude.{if◌then◌else◌, nat_lt, option_and_then, option_map}
 use Rattle.std.specs.FinMap as map
 use Rattle.std.proofs.lemmas.Bool.Decides.{nat_tests}
@@ -27,25 +27,31 @@ use Rattle.seal_wrap.specs.Wrapped.{Wrapped, wrap_of, wrapped_text, wrapped_with
 use Rattle.tink_base.specs.Hash.{hash_size}
 use Rattle.tink_base.specs.declared.hash.Hash.{Hash}
 use Rattle.tink_base.specs.declared.hash.Hash.TheVariants.{Sha1}
-use Rattle.tinkey_session.specs.Talking.{talk}
+use Rattle.tinkey_session.specs.Lines.{line_of}
+use Rattle.tinkey_session.specs.Saving.{files_after}
+use Rattle.tinkey_session.specs.TalkLaws.{SavesAreTurns}
+use Rattle.tinkey_session.specs.Talking.{goes}
 use Rattle.wrapped_prims.specs.Answers.{Sealed, seal_answer, seal_behind, seal_under}
 use Rattle.wrapped_prims.specs.Candidates.{prefix_bytes, prefix_of}
 use Rattle.wrapped_prims.specs.Fitness.{key_of_record}
 use Rattle.tinkey_plans.specs.Commands.{command_plan}
 use Rattle.tinkey_plans.specs.Locks.{puts_under}
 use Rattle.tinkey_plans.specs.Plan.{Answer, Told, answer, create_answer, refused}
+use Rattle.tinkey_plans.specs.Session.{form_under, saves_as}
 use Rattle.tinkey_plans.specs.Steps.{puts}
 use Rattle.tinkey_plans.specs.Wrapping.{is_json}
 use Rattle.tinkey_plans.specs.declared.status.Status.TheVariants as status
 use Rattle.tinkey_words.specs.declared.words.rows.Format.{Format}
 use Rattle.tinkey_words.specs.Words.{Asked, AskedEdit, Lock, Master, KeysetFile, as_taken, convert_keyset, create_keyset, edit_keyset, under}
-use Rattle.tinkey_readable.specs.LockedHiding.{LockedRunsPut, LockedSessionsSave, Makes, PutsAlone, PutsSealed, SealedAlike, SealedPut, ShowsInfoAlone}
-use Rattle.tinkey_readable.specs.Lying.{FitsThere, OpensLock}
-use Rattle.tinkey_readable.specs.Runs.{IsFree}
-use Rattle.tinkey_readable.proofs.DoneSessionLemmas.{session_answers, session_is}
+use Rattle.tinkey_readable.specs.LockedHiding.{LockedLinesSave, LockedRunsPut, LockedSessionsSave, Makes, PutsAlone, PutsSealed, SavesLast, SealedAlike, SealedPut, ShowsInfoAlone}
+use Rattle.tinkey_readable.specs.DoneWhere.{IsSavedWithin}
+use Rattle.tinkey_readable.specs.Lying.{FitsThere, LiesBehind, LiesThere, OpensLock, OpensMaster}
+use Rattle.tinkey_readable.specs.Runs.{IsFree, told_session}
+use Rattle.tinkey_readable.proofs.DoneSessionLemmas.{session_answers, session_is, stands}
 use Rattle.tinkey_readable.proofs.DoneWhereLemmas.{convert_answers, convert_goes, create_answers, create_goes, edit_answers, edit_goes}
 use Rattle.tinkey_readable.proofs.LyingLemmas.{writes_reached}
 use Rattle.tinkey_readable.proofs.ReachLemmas.{IsDoneAnswer, behind}
+use Rattle.tinkey_readable.proofs.SavedFormLemmas.{asked_written, written_under}
 use Rattle.tinkey_readable.proofs.WrappedRunLemmas.{behind_files, behind_random}
 use Rattle.tinkey_session.proofs.Options.{clash}
 
@@ -124,25 +130,60 @@ locked_runs_put hides table _ told put e done = clash e
 
 -- ---- a session saves one
 
+-- so does each of its lines
+pub locked_lines_save : TextHidesKeys → SavesAreTurns → LockedLinesSave
+locked_lines_save hides law table over keys form answers taken random ended a there =
+    let saves = form_under table (Some over) form in
+    let t = law table saves answers keys taken random ended in
+    let w = asked_written table saves answers keys (each line_of t.answered) random t.last _ a t.remains' t.asked there in
+    let u = written_under table over form w.saved w.iv a.bytes w.is in
+    (w.saved, w.edited, subst (ShowsInfoAlone table over w.saved form) u.text (shows hides table over w.saved form w.iv u.wrapped u.is))
+
+-- and its end, which puts out nothing
+last_saved : TextHidesKeys → (table : Table) (over : Keys) (file : Option (List ℕ)) (form : Format) (keys : Keys) (left : Told) → IsFree file left.files → IsSavedWithin table (Some over) file form keys left.random
+    → ((answer (saves_as table (Some over) file form keys) left).output ≡ []) × SavesLast table over keys file form left.files (answer (saves_as table (Some over) file form keys) left).files
+last_saved hides table over None form keys left free fits = (refl, refl)
+last_saved hides table over (Some name) form keys left free fits =
+    let text = fits.wrapped.text in
+    let last = record left { random = fits.wrapped.left } in
+    let e = writes_reached table (Some over) form keys (puts (Some name)) left fits in
+    let alone = puts_alone (Some name) text last free in
+    (ap (λ (a : Answer). a.output) e ∙ alone.0, (text, shows hides table over keys form left.random fits.wrapped fits.made, ap (λ (a : Answer). a.files) e ∙ alone.1))
+
+-- what a session that is Done leaves, under its master
+record LockedEnd (table : Table) (lock : Master) (name : List ℕ) (form : Format) (out : KeysetFile) (told : Told) (a : Answer) : Type 0 where
+  over : Keys
+  old : Keys
+  opens : OpensMaster table lock told over
+  lies : LiesBehind table (Some lock) (record { file = Some name; form = form }) told old
+  output : a.output ≡ (told_session table (Some over) out.form old told).output
+  files : let x = told_session table (Some over) out.form old told in SavesLast table over x.keys out.file out.form (files_after told.files x.asked) a.files
+
+locked_end : TextHidesKeys → (table : Table) (lock : Master) (name : List ℕ) (form : Format) (out : KeysetFile) (told : Told) (master : Option Keys) (keys : Keys) (a : Answer)
+    → OpensLock table (Some lock) told master → LiesThere table master (record { file = Some name; form = form }) told keys
+    → IsFree out.file (files_after told.files (told_session table master out.form keys told).asked)
+    → IsSavedWithin table master out.file out.form (told_session table master out.form keys told).keys (told_session table master out.form keys told).random
+    → a ≡ stands table master keys out told goes → LockedEnd table lock name form out told a
+locked_end hides table lock name form out told None keys a opens lies free fits is = absurd opens
+locked_end hides table lock name form out told (Some over) keys a opens lies free fits is =
+    let x = told_session table (Some over) out.form keys told in
+    let files = files_after told.files x.asked in
+    let left : Told = record { input = []; files = files; random = x.random } in
+    let p = last_saved hides table over out.file out.form x.keys left free fits in
+    record {
+      over = over;
+      old = keys;
+      opens = opens;
+      lies = record { master = Some over; opens = opens; lies = lies };
+      output = ap (λ (a : Answer). a.output) is ∙ ap (λ l. x.output ++ l) p.0 ∙ append-nil x.output;
+      files = subst (SavesLast table over x.keys out.file out.form files) (sym (ap (λ (a : Answer). a.files) is)) p.1;
+    }
+
 pub locked_sessions_save : TextHidesKeys → LockedSessionsSave
-locked_sessions_save hides table lock name file form of_out told done =
-    let out : KeysetFile = record { file = Some file; form = of_out } in
+locked_sessions_save hides table lock name form out told done =
     let x = session_is table (Some lock) name form out told done in
-    let t = talk table x.keys told.input told.random true in
-    let left = record told { input = []; random = t.random } in
-    let put = put_so hides table lock x.master out t.keys told left (answer (puts_under table x.master out t.keys) left) x.opens x.saved x.free refl refl in
-    let e = session_answers table (Some lock) name form out told x in (
-      put.over,
-      x.keys,
-      put.opens,
-      record { master = x.master; opens = x.opens; lies = x.lies },
-      (
-        put.text,
-        put.shows,
-        ap (λ (a : Answer). a.output) e ∙ ap (λ l. t.output ++ l) put.alone.0 ∙ append-nil t.output,
-        ap (λ (a : Answer). a.files) e ∙ put.alone.1,
-      ),
-    )
+    let e = locked_end hides table lock name form out told x.master x.keys _ x.opens x.lies x.free x.saved (session_answers table (Some lock) name form out told x) in
+    (e.over, e.old, e.opens, e.lies, (e.output, e.files))
 
 -- ---- keysets that differ in keys alone
 

@@ -30,17 +30,16 @@ use Rattle.tinkey_session.specs.HeldLaws.{AreBytes, AreStored, EditsKeepStored, 
 use Rattle.tinkey_session.specs.Laws.{EditedIsKeyset, EditedIsSound, IsEdited, SoundIsUsable}
 use Rattle.tinkey_session.specs.Lines.{Line}
 use Rattle.tinkey_session.specs.Serving.{serve}
-use Rattle.tinkey_session.specs.Session.{Remains, asked_in, remains}
+use Rattle.tinkey_session.specs.Session.{Remains, remains}
 use Rattle.tinkey_session.specs.SessionLaws.{SessionIsEdits}
-use Rattle.tinkey_session.specs.TalkLaws.{TalkIsTurns}
-use Rattle.tinkey_session.specs.Talking.{talk}
+use Rattle.tinkey_session.specs.TalkLaws.{SavesAreTurns}
 use Rattle.wrapped_prims.specs.Answers.{seal_answer}
 use Rattle.wrapped_prims.specs.Laws.{IsKeyset}
 use Rattle.tinkey_plans.specs.declared.origin.Origin.TheVariants as origins
 use Rattle.tinkey_plans.specs.Commands.{command_plan}
 use Rattle.tinkey_plans.specs.Locks.{opens_master, put_origin, puts_under, takes_under}
 use Rattle.tinkey_plans.specs.Plan.{Answer, Plan, Told, answer, exchanges}
-use Rattle.tinkey_plans.specs.Session.{holds_session, saves, saves_as}
+use Rattle.tinkey_plans.specs.Session.{holds_session, saves, saves_as, saving_session}
 use Rattle.tinkey_plans.specs.Steps.{keyset_limit, makes_keyset, puts, written_in}
 use Rattle.tinkey_plans.specs.Wrapping.{is_json, makes_wrapped, wrapped_limit}
 use Rattle.tinkey_readable.proofs.LockLemmas.{lock_done, under_done}
@@ -51,7 +50,7 @@ use Rattle.tinkey_readable.proofs.WrittenBytesLemmas.{written_bytes}
 use Rattle.tinkey_readable.proofs.StreamKeyLemmas.{fit_sound, sound_fit}
 use Rattle.tinkey_readable.specs.Anywhere.{CreatedServe, CreatedServeStreams, LocksServe, LocksServeStreams}
 use Rattle.tinkey_readable.specs.LockedRuns.{GivesUnder}
-use Rattle.tinkey_readable.specs.Runs.{AreLocked, CreatesUnder, Does, DrawsBytes, GoesLocked, GoesUnder, HoldsBytes, IsCreated, Keeps, LockedHanding, LocksStep, ReadIsStored, Run, StillOpens, HandsUnder, Wraps, Written, bytes_at, hands_under, keyset_of, read_in, session_under}
+use Rattle.tinkey_readable.specs.Runs.{AreLocked, CreatesUnder, Does, DrawsBytes, GoesLocked, GoesUnder, HoldsBytes, IsCreated, Keeps, LockedHanding, LocksStep, ReadIsStored, Run, StillOpens, HandsUnder, Wraps, Written, bytes_at, hands_under, keyset_of, master_told, read_in, session_under, told_lines}
 use Rattle.tinkey_words.specs.declared.words.rows.Format.{Format}
 use Rattle.tinkey_words.specs.declared.words.rows.Format.TheVariants as formats
 use Rattle.tinkey_words.specs.Words.{Asked, AskedEdit, Master, KeysetFile, as_taken, convert_keyset, create_keyset, edit_keyset, help, in_clear, key_of, list_key_templates, list_keyset, open_range, self_test, session, under, use_envelope, use_keyset, use_stream, version}
@@ -65,7 +64,7 @@ pub record StepLaws : Type 0 where
   pub back : WrapBackBytes
   pub keeps : EditsKeepKeysets
   pub keeps_stored : EditsKeepStored
-  pub turns : TalkIsTurns
+  pub turns : SavesAreTurns
   pub sessions : SessionIsEdits
   pub edited : EditedIsKeyset
   pub keep_sessions : SessionsKeepStored
@@ -81,7 +80,7 @@ step_left keys edit random s all e =
     let front = fronts-step keys edit random s e in
     bytes_behind front.0 s.left (subst AreBytes front.1 all)
 
-session_left : (table : Table) (keys : Keys) (lines : List Line) (random : List ℕ) (m : Remains) → AreBytes random → remains table keys lines random ≡ Some m → AreBytes m.left
+pub session_left : (table : Table) (keys : Keys) (lines : List Line) (random : List ℕ) (m : Remains) → AreBytes random → remains table keys lines random ≡ Some m → AreBytes m.left
 unfolding remains
 session_left table keys [] random m all e = subst (λ (x : Remains). AreBytes x.left) (same_Some _ _ e) all
 session_left table keys (line ∷ later) random m all e = elim (serve table keys line random) as (λ o. serve table keys line random ≡ o → option_and_then (λ s. remains table s.keys later s.left) o ≡ Some m → AreBytes m.left) [
@@ -93,20 +92,20 @@ session_left table keys (line ∷ later) random m all e = elim (serve table keys
 
 -- so it does as this text, under this master
 pub record UnderSeal (master text : Written) (keys : Keys) : Type 0 where
-  over : Keys
-  read : keyset_of master ≡ Some over
-  within : length master.bytes ≤ keyset_limit
-  random : List ℕ
-  bytes : AreBytes random
-  wrapped : Wrapped
-  is : wrap_of keys over standard_table random (is_json text.form) ≡ Some wrapped
-  same : wrapped.text ≡ text.bytes
-  short : length text.bytes ≤ wrapped_limit
-  faultless : fault_of keys ≡ None
-  stored : AreStored keys
+  pub over : Keys
+  pub read : keyset_of master ≡ Some over
+  pub within : length master.bytes ≤ keyset_limit
+  pub random : List ℕ
+  pub bytes : AreBytes random
+  pub wrapped : Wrapped
+  pub is : wrap_of keys over standard_table random (is_json text.form) ≡ Some wrapped
+  pub same : wrapped.text ≡ text.bytes
+  pub short : length text.bytes ≤ wrapped_limit
+  pub faultless : fault_of keys ≡ None
+  pub stored : AreStored keys
 
 -- a master that still opens it gives it
-given_again : StepLaws → (master later text : Written) (keys : Keys) (o : StillOpens master later) → UnderSeal master text keys → unwrap_of o.new standard_table text.bytes (is_json text.form) ≡ Ok keys
+pub given_again : StepLaws → (master later text : Written) (keys : Keys) (o : StillOpens master later) → UnderSeal master text keys → unwrap_of o.new standard_table text.bytes (is_json text.form) ≡ Ok keys
 given_again l master later text keys o s =
     let primary : primary_of s.over ≡ Some o.r = ap (λ k. primary_of k) (same_Some _ _ (sym s.read ∙ o.read)) ∙ o.primary in
     let made = map_some (wrapped_with (is_json text.form) (info_of keys)) (seal_answer s.over standard_table (binary_of keys) [] s.random) s.wrapped s.is in
@@ -257,6 +256,10 @@ saved_under over form keys told file done =
     let p = put_under over (record { file = Some file; form = form }) keys told done in
     record { put = p; there = p.there }
 
+-- the master that is told is the one that lies in the file of the lock
+pub master_is : (lock : Master) (told : Told) (master : Written) (over : Keys) → lock.form ≡ master.form → map.get told.files lock.file ≡ Some master.bytes → keyset_of master ≡ Some over → master_told (Some lock) told ≡ Some over
+master_is lock told master over form lies read = ap (option_and_then (read_in lock.form)) lies ∙ ap (λ x. read_in x master.bytes) form ∙ read
+
 session_step : StepLaws → (lock : Master) (name : List ℕ) (form of_out : Format) (file : List ℕ) (told : Told) (master text put after : Written) (over old : Keys)
     → Went (session (Some lock) name form (record { file = Some file; form = of_out })) told master text put after over old (same_handing lock (record { file = Some name; form = form }) (record { file = Some file; form = of_out }))
     → StepUnder (session (Some lock) name form (record { file = Some file; form = of_out })) told old put after
@@ -268,15 +271,17 @@ session_step l lock name form of_out file told master text put after over old w 
     let d1 : IsDoneAnswer (answer (holds (Some over)) told) = ap (λ (a : Answer). a.status) (sym o.goes_on) ∙ w.done in
     let t = under_done origins.Keyset over in' text.bytes old (holds_session standard_table (Some over) out) told w.taken (ap (λ x. unwrap_of over standard_table text.bytes (is_json x)) w.taken_form ∙ w.gives) d1 in
     let d2 : IsDoneAnswer (answer (holds_session standard_table (Some over) out old) told) = ap (λ (a : Answer). a.status) (sym t) ∙ d1 in
-    let free = free_done out.file (λ free. exchanges (talk standard_table old) (saves standard_table (Some over) out)) told d2 in
+    let free = free_done out.file (λ free. exchanges (saving_session standard_table (Some over) of_out old) (saves standard_table (Some over) out)) told d2 in
     let d = talk_done l.turns standard_table (Some over) out old told (ap (λ (a : Answer). a.status) (sym free) ∙ d2) in
     let s = saved_under over of_out d.last.keys d.left file d.done in
     let keyset : IsKeyset old = record { faultless = w.faultless; words = each_of old.records (λ r x. x.held.id) w.stored } in
+    let lines = told_lines standard_table (Some over) of_out old told in
     let files = ap (λ (a : Answer). map.get a.files file) (o.goes_on ∙ t ∙ free) ∙ ap (λ f. map.get f file) d.goes_on ∙ s.there in
-    let seal = sealed_so master after over d.last.keys out d.left s.put _ w.read o.within (subst AreBytes d.left_bytes (session_left standard_table old (asked_in told.input) told.random d.last w.random d.is)) w.put_form w.put' files
-    (l.edited old d.last.keys (l.sessions standard_table old (asked_in told.input) told.random d.last d.is) keyset).faultless
-    (l.keep_sessions standard_table old (asked_in told.input) told.random d.last w.random w.stored d.is) in
-    record { new = d.last.keys; does = (d.last, d.is, refl); seal = subst (λ x. UnderSeal x after d.last.keys) (one_master lock in' out master put w) seal }
+    let seal = sealed_so master after over d.last.keys out d.left s.put _ w.read o.within (subst AreBytes d.left_bytes (session_left standard_table old lines told.random d.last w.random d.is)) w.put_form w.put' files
+    (l.edited old d.last.keys (l.sessions standard_table old lines told.random d.last d.is) keyset).faultless
+    (l.keep_sessions standard_table old lines told.random d.last w.random w.stored d.is) in
+    let does = subst (λ m. remains standard_table old (told_lines standard_table m of_out old told) told.random ≡ Some d.last) (sym (master_is lock told master over w.form w.lies w.read)) d.is in
+    record { new = d.last.keys; does = (d.last, does, refl); seal = subst (λ x. UnderSeal x after d.last.keys) (one_master lock in' out master put w) seal }
 
 session_by_file : StepLaws → (lock : Master) (name : List ℕ) (form of_out : Format) (file : Option (List ℕ)) (told : Told) (master text put after : Written) (over old : Keys) (x : LockedHanding)
     → session_under lock name form (record { file = file; form = of_out }) file ≡ Some x

@@ -1,8 +1,8 @@
 -- What was resealed opens as what was sealed does.
-use Rattle.std.proofs.Common.{◌≡◌, ◌∙◌, sym, refl, ap, subst, ℕ, List, [], ◌∷◌, Option, Some, None, IsSome, option_map}
+use Rattle.std.proofs.Common.{arith, ◌≡◌, ◌∙◌, sym, refl, ap, subst, ℕ, ◌≤◌, List, [], ◌∷◌, length, Option, Some, None, IsSome, option_map}
 use Rattle.std.proofs.lemmas.Option.{same_Some}
 use Rattle.key_msgs.specs.declared.primitive.Primitive.TheVariants.{Aead, Daead}
-use Rattle.keyset_model.specs.Keyset.{Keys}
+use Rattle.keyset_model.specs.Keyset.{Keys, primary_of}
 use Rattle.keyset_model.specs.Writing.{ReadKeysFit}
 use Rattle.keyset_model.specs.declared.record.Record.{Record}
 use Rattle.managers.specs.Standard.{standard_table}
@@ -14,7 +14,9 @@ use Rattle.tinkey_session.specs.Lines.{Dreseal, Reseal}
 use Rattle.tinkey_session.specs.Serving.{Served, answered, computed, if_opened, sealed_reply, serve}
 use Rattle.tinkey_session.specs.declared.reply.LineRefusal.TheVariants.{OpenFailed}
 use Rattle.tinkey_session.specs.declared.reply.Reply.TheVariants.{Gives, Refuses}
+use Rattle.wrapped_prims.proofs.OpenedSizes.{opened-short}
 use Rattle.wrapped_prims.specs.Answers.{Sealed, dopen_answer, dseal_answer, open_answer, seal_answer}
+use Rattle.wrapped_prims.specs.Candidates.{prefix_of}
 use Rattle.wrapped_prims.specs.Laws.{HasSameKey, IsKeyset}
 use Rattle.tinkey_plans.specs.declared.status.Status.TheVariants as status
 use Rattle.tinkey_plans.specs.Laws.{FitKeysetsAnswer}
@@ -30,7 +32,7 @@ use Rattle.tinkey_readable.proofs.CallLemmas.{no_dreseal, no_reseal}
 use Rattle.tinkey_readable.proofs.LineRunLemmas.{MakesSeal, dopen_answers, gave, open_answers, same_bytes}
 use Rattle.tinkey_readable.proofs.ReachLemmas.{IsDoneAnswer}
 use Rattle.tinkey_readable.proofs.RunLemmas.{Started, dsealed_fits, sealed_fits}
-use Rattle.tinkey_readable.specs.Anywhere.{WasMadeBy, by_call, by_line, by_locked, by_locked_line, by_run}
+use Rattle.tinkey_readable.specs.Anywhere.{IsReadAnywhere, WasMadeBy, by_call, by_line, by_locked, by_locked_line, by_run}
 use Rattle.tinkey_readable.specs.Calls.{asked_by, input_of}
 use Rattle.tinkey_readable.specs.LineRuns.{asks}
 use Rattle.tinkey_readable.specs.Resealing.{AreResealed, IsResealed, ResealedDopens, ResealedOpens, SealedText, made_over}
@@ -186,3 +188,31 @@ resealed_dopens sizes fits fit kept ad plain prefix first last between was are i
     let o = dreseal_all fits fit kept ad plain between first last (dseal_maker fits fit ad plain first.bytes first.under' was) are in
     read_over (to_dopen ad) last.bytes plain last.under' (dsealed_fits sizes o.old plain ad last.bytes o.makes o.short) (λ keys same.
     dopen_answers (λ other. other ≡ plain) keys last.bytes ad plain refl (kept o.old keys last.under' prefix plain ad last.bytes same o.primary is o.makes))
+
+-- ---- where a line resealed it
+
+-- it opens to what the old text opened to, over each keyset that has the key
+pub resealed_reads : SealingsFit → KeptOpen → (ad old new prefix : List ℕ) (r : Record) (keys : Keys) (random : List ℕ) (x : Served) → serve standard_table keys (Reseal old ad) random ≡ Some x → x.reply ≡ Gives new
+    → primary_of keys ≡ Some r → prefix_of r ≡ Some prefix → length old ≤ input_limit
+    → (plain : List ℕ) × (open_answer keys standard_table old ad ≡ Some plain) × IsReadAnywhere HasSameKey (to_open ad) new plain r
+resealed_reads sizes kept ad old new prefix r keys random x e reply primary is short =
+    let w = reseal_line keys ad old new random x e reply in
+    let m = w.makes in
+    let fits : length w.plain ≤ input_limit = (let less = opened-short Aead standard_table keys old ad w.plain w.opens in omega (arith, less, short)) in (
+      w.plain,
+      w.opens,
+      read_over (to_open ad) new w.plain r (sealed_fits sizes keys w.plain ad m.random m.made new m.is m.bytes fits) (λ later same.
+          open_answers (λ other. other ≡ w.plain) later new ad w.plain refl (ap (λ c. open_answer later standard_table c ad) (sym m.bytes) ∙ kept keys later r prefix w.plain ad m.random m.made same primary is m.is)),
+    )
+
+pub dresealed_reads : DsealingsFit → KeptDopen → (ad old new prefix : List ℕ) (r : Record) (keys : Keys) (random : List ℕ) (x : Served) → serve standard_table keys (Dreseal old ad) random ≡ Some x → x.reply ≡ Gives new
+    → primary_of keys ≡ Some r → prefix_of r ≡ Some prefix → length old ≤ input_limit
+    → (plain : List ℕ) × (dopen_answer keys standard_table old ad ≡ Some plain) × IsReadAnywhere HasSameKey (to_dopen ad) new plain r
+dresealed_reads sizes kept ad old new prefix r keys random x e reply primary is short =
+    let w = dreseal_line keys ad old new random x e reply in
+    let fits : length w.plain ≤ input_limit = (let less = opened-short Daead standard_table keys old ad w.plain w.opens in omega (arith, less, short)) in (
+      w.plain,
+      w.opens,
+      read_over (to_dopen ad) new w.plain r (dsealed_fits sizes keys w.plain ad new w.makes fits) (λ later same.
+          dopen_answers (λ other. other ≡ w.plain) later new ad w.plain refl (kept keys later r prefix w.plain ad new same primary is w.makes)),
+    )

@@ -30,10 +30,11 @@ use Rattle.tinkey_session.specs.Serving.{template_or}
 use Rattle.tinkey_session.specs.HeldLaws.{AreBytes, AreStored, EditsKeepStored, IsStored, SessionsKeepStored}
 use Rattle.tinkey_session.specs.Laws.{EditedIsKeyset, EditedIsSound, IsEdited, SoundIsUsable, after}
 use Rattle.tinkey_session.specs.Lines.{line_of}
-use Rattle.tinkey_session.specs.Session.{Remains, asked_in, lines_of, remains}
-use Rattle.tinkey_session.specs.Talking.{Stop, goes, wants, passes, line_limit, long_line, many_lines, Talk, talk}
+use Rattle.tinkey_session.specs.Session.{Remains, lines_of, remains}
+use Rattle.tinkey_session.specs.Talking.{Stop, goes, wants, passes, line_limit, long_line, many_lines, Talk}
+use Rattle.tinkey_session.specs.Saving.{by_files, files_after}
 use Rattle.tinkey_session.specs.SessionLaws.{SessionIsEdits}
-use Rattle.tinkey_session.specs.TalkLaws.{TalkIsTurns}
+use Rattle.tinkey_session.specs.TalkLaws.{SavesAreTurns}
 use Rattle.wrapped_prims.specs.Answers.{Sealed, dseal_answer, seal_answer, tag_answer}
 use Rattle.wrapped_prims.specs.Laws.{IsKeyset}
 use Rattle.wrapped_prims.specs.Making.{HasWordId}
@@ -44,8 +45,8 @@ use Rattle.tinkey_words.specs.declared.words.rows.Format.{Format}
 use Rattle.tinkey_words.specs.declared.words.rows.Format.TheVariants as formats
 use Rattle.tinkey_plans.specs.Commands.{command_plan}
 use Rattle.tinkey_plans.specs.Plan.{Told, Answer, Plan, answer, exchanges, writes, draw_answer, look_answer, refused, talk_answer}
-use Rattle.tinkey_plans.specs.Session.{finds_free, holds_session, saves, saves_as}
-use Rattle.tinkey_readable.specs.Runs.{Handing, hands_on, session_handing, AreRuns, Does, Gives, HandsOn, HoldsBytes, IsDone, Keeps, LeadOn, ReadIsStored, Passage, PassesBytes, Run, RunStep, WasDone, LocksStep, Written, by_run, by_wrap, bytes_at, keyset_of, read_in, shown}
+use Rattle.tinkey_plans.specs.Session.{finds_free, form_under, holds_session, saves, saves_as, saving_session}
+use Rattle.tinkey_readable.specs.Runs.{Handing, hands_on, session_handing, AreRuns, Does, Gives, HandsOn, HoldsBytes, IsDone, Keeps, LeadOn, ReadIsStored, Passage, PassesBytes, Run, RunStep, WasDone, LocksStep, Written, by_run, by_wrap, bytes_at, keyset_of, master_told, read_in, saving_lines, shown, told_lines, told_session}
 use Rattle.tinkey_plans.specs.Laws.{FitKeysetsAnswer}
 use Rattle.tinkey_plans.specs.Steps.{input_limit, sealed_limit, keyset_limit, takes_keyset, makes_keyset, puts_keyset, with_made, written_in}
 use Rattle.tinkey_plans.specs.declared.sealer.Sealer.{Sealer}
@@ -205,36 +206,39 @@ convert_step law binary json table in' out told before after old done form read 
 -- the answer of a session over its whole input that is Done, and what goes on
 pub record SessionDone (table : Table) (master : Option Keys) (out : KeysetFile) (old : Keys) (told : Told) : Type 0 where
   pub last : Remains
-  pub is : remains table old (asked_in told.input) told.random ≡ Some last
+  pub is : remains table old (told_lines table master out.form old told) told.random ≡ Some last
   pub short : AllByRecursion (λ line. length line ≤ line_limit) (lines_of told.input)
   pub left : Told
   pub left_bytes : last.left ≡ left.random
-  pub goes_on : (answer (exchanges (talk table old) (saves table master out)) told).files ≡ (answer (saves table master out last.keys) left).files
+  pub goes_on : (answer (exchanges (saving_session table master out.form old) (saves table master out)) told).files ≡ (answer (saves table master out last.keys) left).files
   pub done : IsDoneAnswer (answer (saves table master out last.keys) left)
 
-pub talk_done : TalkIsTurns → (table : Table) (master : Option Keys) (out : KeysetFile) (old : Keys) (told : Told) → IsDoneAnswer (answer (exchanges (talk table old) (saves table master out)) told) → SessionDone table master out old told
+pub talk_done : SavesAreTurns → (table : Table) (master : Option Keys) (out : KeysetFile) (old : Keys) (told : Told) → IsDoneAnswer (answer (exchanges (saving_session table master out.form old) (saves table master out)) told) → SessionDone table master out old told
 talk_done law table master out old told done = by_stop x.stop refl done
   where
     x : Talk
-    x = talk table old told.input told.random true
+    x = told_session table master out.form old told
+
+    made : Told
+    made = record told { files = files_after told.files x.asked }
 
     left : Told
-    left = record told { input = []; random = x.random }
+    left = record made { input = []; random = x.random }
 
     next : Answer
     next = answer (saves table master out x.keys) left
 
-    by_stop : (s : Stop) → x.stop ≡ s → IsDoneAnswer (talk_answer s x told next) → SessionDone table master out old told
+    by_stop : (s : Stop) → x.stop ≡ s → IsDoneAnswer (talk_answer s x made next) → SessionDone table master out old told
     by_stop goes is done =
-        let t = law table old told.input told.random true in
+        let t = law table (form_under table master out.form) (by_files told.files) old told.input told.random true in
         let all : lines_of told.input ≡ t.answered = t.cut ∙ ap (λ l. t.answered ++ l) (t.all is) ∙ append-nil t.answered in
         record {
           last = t.last;
-          is = ap (λ l. remains table old (each line_of l) told.random) all ∙ t.remains';
+          is = ap (λ l. remains table old (saving_lines table (form_under table master out.form) (by_files told.files) old (each line_of l) told.random) told.random) all ∙ t.remains';
           short = subst (λ l. AllByRecursion (λ line. length line ≤ line_limit) l) (sym all) t.short;
           left = left;
           left_bytes = t.left (λ h. let e : goes ≡ wants = sym is ∙ h in absurd (cc));
-          goes_on = ap (λ (a : Answer). a.files) (ap (λ s. talk_answer s x told next) is) ∙ ap (λ k. (answer (saves table master out k) left).files) (sym t.keys');
+          goes_on = ap (λ (a : Answer). a.files) (ap (λ s. talk_answer s x made next) is) ∙ ap (λ k. (answer (saves table master out k) left).files) (sym t.keys');
           done = ap (λ k. (answer (saves table master out k) left).status) t.keys' ∙ done;
         }
     by_stop wants is done = absurd (cc)
@@ -268,7 +272,7 @@ saved table out keys told file is done = by out.file refl is done
               ∙ subst (λ n. map.get (answer (saves_as table None (Some other) out.form keys) told).files n ≡ Some (written_in out.form keys)) (same_Some _ _ is) p.there;
         }
 
-session_step : FaultlessKeysets → BinaryBack → JsonBack → TalkIsTurns → SessionIsEdits → EditedIsKeyset → SessionsKeepStored → (table : Table) (name : List ℕ) (form : Format) (out : KeysetFile) (file : List ℕ) (told : Told) (before after : Written) (old : Keys)
+session_step : FaultlessKeysets → BinaryBack → JsonBack → SavesAreTurns → SessionIsEdits → EditedIsKeyset → SessionsKeepStored → (table : Table) (name : List ℕ) (form : Format) (out : KeysetFile) (file : List ℕ) (told : Told) (before after : Written) (old : Keys)
     → out.file ≡ Some file → IsDoneAnswer (answer (command_plan table (session None name form out)) told)
     → form ≡ before.form → map.get told.files name ≡ Some before.bytes → out.form ≡ after.form
     → bytes_at out.file (answer (command_plan table (session None name form out)) told).files (answer (command_plan table (session None name form out)) told).output ≡ Some after.bytes
@@ -277,7 +281,7 @@ session_step : FaultlessKeysets → BinaryBack → JsonBack → TalkIsTurns → 
 session_step law binary json turns sessions edited keeps table name form out file told before after old named done form_is read put_form put random is stored =
     let l = load_done origins.Keyset name form before.bytes old (holds_session table None out) told read (ap (λ x. read_in x before.bytes) form_is ∙ is) done in
     let whole : IsDoneAnswer (answer (holds_session table None out old) told) = ap (λ (a : Answer). a.status) (sym l) ∙ done in
-    let free = free_done out.file (λ free. exchanges (talk table old) (saves table None out)) told whole in
+    let free = free_done out.file (λ free. exchanges (saving_session table None out.form old) (saves table None out)) told whole in
     let d = talk_done turns table None out old told (ap (λ (a : Answer). a.status) (sym free) ∙ whole) in
     let p = saved table out d.last.keys d.left file named d.done in
     let faultless = read_faultless before old is in
@@ -286,11 +290,11 @@ session_step law binary json turns sessions edited keeps table name form out fil
     given law binary json table (record { asked = session None name form out; told = told }) old d.last.keys out after put_form put
     (ap (λ f. bytes_at f (answer (command_plan table (session None name form out)) told).files (answer (command_plan table (session None name form out)) told).output) named ∙ ap (λ f. map.get f file) files ∙ p.there)
     p.within
-    (edited old d.last.keys (sessions table old (asked_in told.input) told.random d.last d.is) keyset).faultless
-    (keeps table old (asked_in told.input) told.random d.last random stored d.is)
+    (edited old d.last.keys (sessions table old (told_lines table None out.form old told) told.random d.last d.is) keyset).faultless
+    (keeps table old (told_lines table None out.form old told) told.random d.last random stored d.is)
     (d.last, d.is, refl)
 
-by_asked : FaultlessKeysets → BinaryBack → JsonBack → EditsKeepKeysets → EditsKeepStored → TalkIsTurns → SessionIsEdits → EditedIsKeyset → SessionsKeepStored → (table : Table) (asked : Asked) (told : Told) (before after : Written) (old : Keys) (h : Handing)
+by_asked : FaultlessKeysets → BinaryBack → JsonBack → EditsKeepKeysets → EditsKeepStored → SavesAreTurns → SessionIsEdits → EditedIsKeyset → SessionsKeepStored → (table : Table) (asked : Asked) (told : Told) (before after : Written) (old : Keys) (h : Handing)
     → hands_on asked ≡ Some h → IsDoneAnswer (answer (command_plan table asked) told)
     → h.taken.form ≡ before.form → bytes_at h.taken.file told.files told.input ≡ Some before.bytes → h.put.form ≡ after.form
     → bytes_at h.put.file (answer (command_plan table asked) told).files (answer (command_plan table asked) told).output ≡ Some after.bytes
@@ -367,7 +371,7 @@ asked_within table version told bytes h e done read = clash e
 pub hands_within : (table : Table) (run : Run) (before after : Written) → HandsOn table run before after → length before.bytes ≤ keyset_limit
 hands_within table run before after h = asked_within table run.asked run.told before.bytes h.handing h.hands h.handed.done h.handed.read
 
-pub run_step : FaultlessKeysets → BinaryBack → JsonBack → EditsKeepKeysets → EditsKeepStored → TalkIsTurns → SessionIsEdits → EditedIsKeyset → SessionsKeepStored → ReadIsStored → RunStep
+pub run_step : FaultlessKeysets → BinaryBack → JsonBack → EditsKeepKeysets → EditsKeepStored → SavesAreTurns → SessionIsEdits → EditedIsKeyset → SessionsKeepStored → ReadIsStored → RunStep
 run_step law binary json keeps keeps_stored turns sessions edited keep_sessions read_stored table run before after old h random holds is =
     let d = h.handed in
     by_asked law binary json keeps keeps_stored turns sessions edited keep_sessions table run.asked run.told before after old h.handing h.hands d.done d.read_form d.read d.put_form d.put random is
@@ -384,7 +388,7 @@ done_edits sessions table told (edit_keyset lock edit in' out) old new does = re
   last = rw does.steps (rw does.accepted refl);
 }
 done_edits sessions table told (convert_keyset lock how in' out) old new does = record { edits = []; asked = tt; last = ap Some does }
-done_edits sessions table told (session lock name form out) old new does = subst (λ k. IsEdited old k) does.2 (sessions table old (asked_in told.input) told.random does.0 does.1)
+done_edits sessions table told (session lock name form out) old new does = subst (λ k. IsEdited old k) does.2 (sessions table old (told_lines table (master_told lock told) out.form old told) told.random does.0 does.1)
 done_edits sessions table told (create_keyset lock template out) old new does = absurd does
 done_edits sessions table told (list_keyset lock in') old new does = absurd does
 done_edits sessions table told (key_of lock name form kind ad) old new does = absurd does

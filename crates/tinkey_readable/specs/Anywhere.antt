@@ -6,7 +6,7 @@
 --   WasMadeBy            what a run, a line of a session or a call of the library made under a key
 --   IsReadAnywhere       what opens or verifies it, over any keyset that has the key
 --   OpensAnywhere ..     the laws
-use Rattle.std.specs.Prelude.{◌≡◌, ℕ, ◌≤◌, List, [], length, Option, Some, None, slice_get}
+use Rattle.std.specs.Prelude.{◌≡◌, ℕ, ◌≤◌, List, [], length, Option, Some, None}
 use Rattle.std.specs.List.{AllByRecursion}
 use Rattle.key_msgs.specs.declared.primitive.Primitive.{Primitive}
 use Rattle.key_msgs.specs.declared.primitive.Primitive.TheVariants.{Aead}
@@ -15,7 +15,8 @@ use Rattle.keyset_model.specs.declared.record.Record.{Record}
 use Rattle.managers.specs.Standard.{standard_table}
 use Rattle.segment_stream.specs.StreamKeys.{stream_unfit}
 use Rattle.tinkey_session.specs.Laws.{IsEdited}
-use Rattle.tinkey_session.specs.Session.{Turn, asked_in, turns}
+use Rattle.tinkey_session.specs.Saving.{Form, StoreAnswers}
+use Rattle.tinkey_session.specs.Session.{Turn}
 use Rattle.tinkey_session.specs.declared.reply.Reply.TheVariants.{Gives}
 use Rattle.wrapped_prims.specs.Candidates.{prefix_of}
 use Rattle.wrapped_prims.specs.Fitness.{unfit}
@@ -28,7 +29,7 @@ use Rattle.tinkey_plans.specs.Wrapping.{wrapped_limit}
 use Rattle.ready_keysets.specs.declared.ready.ReadyKeyset.{ReadyKeyset}
 use Rattle.tinkey_readable.specs.Calls.{CallsGive, IsCalled, IsHandle, WasCalled}
 use Rattle.tinkey_readable.specs.EnvelopeRuns.{IsEnveloped, MakeOneType, WasEnveloped}
-use Rattle.tinkey_readable.specs.LineRuns.{HasTurn, asks, done_reply}
+use Rattle.tinkey_readable.specs.LineRuns.{HasTurn, IsTurnAt, asks, done_reply}
 use Rattle.tinkey_readable.specs.LockedRuns.{GivesUnder, IsDoneUnder, WasDoneUnder}
 use Rattle.tinkey_readable.specs.Lying.{GivesKeyset, Lies, Lying, sealed_under}
 use Rattle.tinkey_readable.specs.RangeRuns.{IsRanged}
@@ -123,14 +124,16 @@ CreatedServeStreams = (run : Run) (locked : List Run) (template : List ℕ)
     × (stream_unfit old ≡ None → ServesStreamsOn later text old)
 
 -- a turn of a session over the keyset that this text gives under a master, of the lines and random bytes that
--- are told
+-- are told, in whatever form it saves, and whatever the store answers
 pub record HasTurnUnder (told : Told) (master text : Written) (t : Turn) : Type 0 where
   pub over : Keys
   pub read : keyset_of master ≡ Some over
   pub keys : Keys
   pub gives : GivesUnder over text keys
+  pub form : Form
+  pub answers : StoreAnswers
   pub place : ℕ
-  pub there : slice_get (turns standard_table keys (asked_in told.input) told.random) place ≡ Some t
+  pub there : IsTurnAt form answers keys told place t
 
 -- By this work this output was made of this input, by the key of this primary record: by a run of the
 -- command that was Done, over a keyset in clear or under a master; by a line of a session, with or without

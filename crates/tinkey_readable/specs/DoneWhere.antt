@@ -26,7 +26,8 @@ use Rattle.segment_stream.specs.Segments.{cipher_of, ciphers_of}
 use Rattle.segment_stream.specs.StreamKeys.{stream_keys, stream_unfit}
 use Rattle.segment_stream.specs.StreamKeys as streams
 use Rattle.segment_stream.specs.declared.key.StreamKey.{StreamKey}
-use Rattle.tinkey_session.specs.Talking.{goes, talk}
+use Rattle.tinkey_session.specs.Saving.{files_after}
+use Rattle.tinkey_session.specs.Talking.{goes}
 use Rattle.wrapped_prims.specs.Answers.{Sealed, derive_answer, dopen_answer, open_answer, primary_key, verify_answer}
 use Rattle.wrapped_prims.specs.Candidates.{is_raw, prefix_of}
 use Rattle.wrapped_prims.specs.Fitness.{unfit}
@@ -40,7 +41,7 @@ use Rattle.tinkey_words.specs.declared.words.rows.SealedForm.{SealedForm}
 use Rattle.tinkey_words.specs.declared.words.rows.SealedForm.TheVariants as forms
 use Rattle.tinkey_words.specs.Words.{AskedEdit, AskedEnvelope, AskedRange, AskedWork, Lock, NewLock, Output, KeysetFile, convert_keyset, create_keyset, edit_keyset, key_of, list_keyset, open_range, open_stream, reseal_stream, seal_stream, session, to_eopen, to_ereseal, to_eseal, use_envelope, use_keyset, to_seal, to_open, to_dseal, to_dopen, to_reseal, to_dreseal, to_tag, to_verify, to_derive, primitive_for}
 use Rattle.tinkey_readable.specs.Lying.{FitsThere, LiesBehind, LiesThere, OpensLock, OpensNewLock}
-use Rattle.tinkey_readable.specs.Runs.{IsCreated, IsEdit, IsFree}
+use Rattle.tinkey_readable.specs.Runs.{IsCreated, IsEdit, IsFree, told_session}
 
 -- ---- edits
 
@@ -234,18 +235,19 @@ abbrev pub IsSavedWithin : Table → (master : Option Keys) → Option (List ℕ
 IsSavedWithin table master None form keys random = Unit {0}
 IsSavedWithin table master (Some name) form keys random = FitsThere table master form keys random
 
--- The lock opens, and a keyset lies in the file of this name; the name of a new file is free; the lines and
--- their number are within their limits and the random bytes suffice for them, so that the session goes on to
--- the end of its input; and the last keyset can be saved, of the random bytes that are left.
+-- The lock opens, and a keyset lies in the file of this name; the name of a new file is free, and no line has
+-- saved the keyset under it; the lines and their number are within their limits and the random bytes suffice for
+-- them, so that the session goes on to the end of its input; and the last keyset can be saved, of the random
+-- bytes that are left.
 pub record SessionGoes (table : Table) (lock : Lock) (name : List ℕ) (form : Format) (out : KeysetFile)
     (told : Told) : Type 0 where
   pub master : Option Keys
   pub opens : OpensLock table lock told master
   pub keys : Keys
   pub lies : LiesThere table master (record { file = Some name; form = form }) told keys
-  pub free : IsFree out.file told.files
-  pub goes_on : (talk table keys told.input told.random true).stop ≡ goes
-  pub saved : let x = talk table keys told.input told.random true in
+  pub goes_on : (told_session table master out.form keys told).stop ≡ goes
+  pub free : IsFree out.file (files_after told.files (told_session table master out.form keys told).asked)
+  pub saved : let x = told_session table master out.form keys told in
       IsSavedWithin table master out.file out.form x.keys x.random
 
 -- a session is answered Done exactly where that is so

@@ -17,27 +17,28 @@ use Rattle.tink_spec.specs.Files.{Files, Holds, StoreState}
 use Rattle.tinkey_cmds.specs.Edits.{Enable}
 use Rattle.tinkey_session.specs.KeptKeys.{HasData, HasDistinctIds, Spares, SparesData, SparesKey}
 use Rattle.tinkey_session.specs.KeptLines.{EachAcceptedLine}
-use Rattle.tinkey_session.specs.Session.{asked_in}
 use Rattle.wrapped_prims.specs.Candidates.{prefix_of}
 use Rattle.wrapped_prims.specs.Laws.{HasSameKey}
 use Rattle.tinkey_plans.specs.Commands.{plan_of}
 use Rattle.tinkey_plans.specs.Ends.{World}
 use Rattle.tinkey_plans.specs.Plan.{Told}
-use Rattle.tinkey_plans.specs.Promises.{Promised, Tells}
+use Rattle.tinkey_plans.specs.Promises.{NoneUnsaved, Promised, Tells}
 use Rattle.tinkey_plans.specs.declared.status.Status.{Status}
 use Rattle.tinkey_plans.specs.declared.status.Status.TheVariants as status
 use Rattle.tinkey_readable.specs.LockedRuns.{GivesUnder}
-use Rattle.tinkey_readable.specs.Runs.{DrawsBytes, Handing, HoldsBytes, IsCreated, LiesIn, LockedHanding, Run, StillOpens, Written, bytes_at, hands_on, hands_under, keyset_of}
+use Rattle.tinkey_readable.specs.Runs.{DrawsBytes, Handing, HoldsBytes, IsCreated, LiesIn, LockedHanding, Run, StillOpens, Written, bytes_at, hands_on, hands_under, keyset_of, master_told, told_lines}
 use Rattle.tinkey_words.specs.Words.{Asked, AskedEdit, Master, KeysetFile, create_keyset, edit_keyset, session, unwrap_keyset, words_of, wrap_keyset}
 
 -- ---- runs as they took place
 
--- words that ask for this were run over objects that told this, and the run ended so
+-- Words that ask for this were run over objects that told this, and the run ended so. It was no session, or no call
+-- of the store failed, so that no reply to a line alone told a store fault.
 pub record TookPlace (run : Run) (old : World) (s : Status) (new : World) : Type 0 where
   pub words : List (List ℕ)
   pub spelled : words_of words ≡ Ok run.asked
   pub tells : Tells old run.told
   pub promised : Promised (plan_of standard_table words) old s new
+  pub unsaved : NoneUnsaved (plan_of standard_table words) old new
 
 -- these bytes are in the file of this name after the run, or were written to standard output
 abbrev pub IsPut : Option (List ℕ) → (old new : World) → (bytes : List ℕ) → Type 0
@@ -166,7 +167,8 @@ pub record Course (events : List Event) (before after : Written) (old : Keys) : 
 abbrev pub OfAsked : (Keys → AskedEdit → Type 0) → Keys → Told → Asked → Type 0
 OfAsked Claim keys told (edit_keyset lock edit in' out) = Claim keys edit
 OfAsked Claim keys told (session lock name form out) =
-    EachAcceptedLine standard_table Claim keys (asked_in told.input) told.random
+    EachAcceptedLine standard_table Claim keys
+    (told_lines standard_table (master_told lock told) out.form keys told) told.random
 OfAsked Claim keys told asked = Unit {0}
 
 -- it holds of what each of such runs did to the keyset that its text gave

@@ -16,6 +16,7 @@ pub mod Readable
 pub mod Resealing
 pub mod ResealedStreams
 pub mod Runs
+pub mod SavedLines
 pub mod ServingTemplates
 pub mod StreamFiles
 pub mod StreamRuns

@@ -2,24 +2,27 @@
 -- either opens or verifies later.
 --
 --   asks      the line of a session that asks for work of keys
+--   IsTurnAt  a turn of a session
 --   WasMade   what a run or a line made of an input, and the runs that led on from there
 --   IsRead    what a run or a line reads of that, over the keyset that they led to
-use Rattle.std.specs.Prelude.{◌≡◌, ℕ, List, [], ◌∷◌, Some, slice_get}
+use Rattle.std.specs.Prelude.{◌≡◌, ℕ, List, [], ◌∷◌, Some, None, slice_get}
 use Rattle.std.specs.List.{AllByRecursion}
 use Rattle.keyset_model.specs.Keyset.{Keys, primary_of}
 use Rattle.keyset_model.specs.declared.record.Record.{Record}
 use Rattle.managers.specs.Standard.{standard_table}
 use Rattle.tinkey_session.specs.Lines.{Line, Seal, Open, Dseal, Dopen, Reseal, Dreseal, Tag, Verify, Derive}
+use Rattle.tinkey_session.specs.Saving.{Form, StoreAnswers, by_files}
 use Rattle.tinkey_session.specs.Session.{Turn, asked_in, turns}
 use Rattle.tinkey_session.specs.declared.reply.Reply.{Reply}
 use Rattle.tinkey_session.specs.declared.reply.Reply.TheVariants.{Done, Gives}
 use Rattle.wrapped_prims.specs.Candidates.{prefix_of}
 use Rattle.wrapped_prims.specs.Laws.{HasKey, HasSameKey}
-use Rattle.tinkey_plans.specs.Laws.{IsSession}
 use Rattle.tinkey_plans.specs.Plan.{Told}
-use Rattle.tinkey_readable.specs.Runs.{AreRuns, HoldsBytes, IsDone, Passage, PassesBytes, Run, WasDone, Written, keyset_of}
+use Rattle.tinkey_plans.specs.Session.{form_under}
+use Rattle.tinkey_readable.specs.Runs.{AreRuns, HoldsBytes, IsDone, Passage, PassesBytes, Run, WasDone, Written, keyset_of, saving_lines}
 use Rattle.tinkey_readable.specs.Runs as passages
-use Rattle.tinkey_words.specs.Words.{AskedWork, to_seal, to_open, to_dseal, to_dopen, to_reseal, to_dreseal, to_tag, to_verify, to_derive}
+use Rattle.tinkey_words.specs.declared.words.rows.Format.{Format}
+use Rattle.tinkey_words.specs.Words.{AskedWork, KeysetFile, session, to_seal, to_open, to_dseal, to_dopen, to_reseal, to_dreseal, to_tag, to_verify, to_derive}
 
 -- the line of a session that asks for this work on this input
 abbrev pub asks : AskedWork → (input : List ℕ) → Line
@@ -38,12 +41,22 @@ abbrev pub done_reply : AskedWork → (output : List ℕ) → Reply
 done_reply (to_verify tag) output = Done
 done_reply _ output = Gives output
 
--- a turn of a session over the keyset that lies here, of the lines and random bytes that are told
+-- the turn of this place of a session over this keyset that saves it in this form, in a store that answers so,
+-- of the lines and random bytes that are told
+abbrev pub IsTurnAt : Form → StoreAnswers → Keys → Told → (place : ℕ) → Turn → Type 0
+IsTurnAt form answers keys told place t =
+    let lines = saving_lines standard_table form answers keys (asked_in told.input) told.random in
+    slice_get (turns standard_table keys lines told.random) place ≡ Some t
+
+-- a turn of a session over the keyset that lies here, of the lines and random bytes that are told, in whatever
+-- form it saves, and whatever the store answers
 pub record HasTurn (told : Told) (written : Written) (t : Turn) : Type 0 where
   pub keys : Keys
   pub read : keyset_of written ≡ Some keys
+  pub form : Form
+  pub answers : StoreAnswers
   pub place : ℕ
-  pub there : slice_get (turns standard_table keys (asked_in told.input) told.random) place ≡ Some t
+  pub there : IsTurnAt form answers keys told place t
 
 -- runs, of which each reads what the one before put out, from this keyset on
 pub record Lead (runs : List Passage) (before after : Written) (old : Keys) : Type 0 where
@@ -61,8 +74,10 @@ pub data WasMade (work : AskedWork) (input output : List ℕ) (r : Record) (afte
       (told : Told) → WasDone work before told output → told.input ≡ input →
       primary_of old ≡ Some r → WasMade work input output r after
   by_line : (run : Run) (runs : List Passage) (before : Written) (old : Keys) →
-      Lead (passages.by_run run ∷ runs) before after old → IsSession run.asked →
-      (t : Turn) → HasTurn run.told before t → t.line ≡ asks work input → t.reply ≡ Gives output →
+      Lead (passages.by_run run ∷ runs) before after old → (name : List ℕ) (form : Format)
+      (out : KeysetFile) → run.asked ≡ session None name form out → (place : ℕ) (t : Turn) →
+      IsTurnAt (form_under standard_table None out.form) (by_files run.told.files) old run.told place t →
+      t.line ≡ asks work input → t.reply ≡ Gives output →
       primary_of t.before ≡ Some r → WasMade work input output r after
 
 -- This work on this input is done with this output, while that record's key is in the keyset as it is

@@ -3,25 +3,30 @@
 --   ShowsInfoAlone    a text is made of sealed bytes, and of the info of a keyset without its keys
 --   PutsSealed        a run puts out one such text, and nothing else
 --   LockedRunsPut     so does each run that puts a keyset under a master
---   LockedSessionsSave   and each session; its output are the replies
+--   LockedLinesSave   so does each line of a session that saves the keyset
+--   LockedSessionsSave   and each session at its end; its output are the replies
 --   SealedAlike       texts of two keysets that differ in keys alone differ in the sealed bytes alone
-use Rattle.std.specs.Prelude.{◌≡◌, ℕ, Bool, true, List, [], length, Option, Some, None}
+use Rattle.std.specs.Prelude.{◌≡◌, ℕ, Bool, List, [], length, Option, Some, None}
 use Rattle.std.specs.FinMap as map
+use Rattle.std.specs.List.{Contains}
 use Rattle.keyset_model.specs.Keyset.{Keys}
 use Rattle.keyset_model.specs.Writing.{binary_of}
 use Rattle.managers.specs.Table.{Table}
 use Rattle.seal_wrap.specs.Info.{info_of, without_keys}
 use Rattle.seal_wrap.specs.Wrapped.{Wrapped, wrap_of, wrapped_text}
-use Rattle.tinkey_session.specs.Talking.{talk}
+use Rattle.tink_spec.specs.Files.{Files}
+use Rattle.tinkey_session.specs.Laws.{IsEdited}
+use Rattle.tinkey_session.specs.Saving.{FileAsked, StoreAnswers, files_after}
 use Rattle.wrapped_prims.specs.Answers.{Sealed, seal_answer}
 use Rattle.tinkey_plans.specs.declared.status.Status.TheVariants as status
 use Rattle.tinkey_plans.specs.Commands.{command_plan}
 use Rattle.tinkey_plans.specs.Plan.{Answer, Told, answer}
+use Rattle.tinkey_plans.specs.Session.{saving_session}
 use Rattle.tinkey_plans.specs.Wrapping.{is_json}
 use Rattle.tinkey_words.specs.declared.words.rows.Format.{Format}
 use Rattle.tinkey_words.specs.Words.{Asked, Master, KeysetFile, as_taken, convert_keyset, create_keyset, edit_keyset, session, under}
 use Rattle.tinkey_readable.specs.Lying.{LiesBehind, OpensMaster}
-use Rattle.tinkey_readable.specs.Runs.{IsCreated, IsEdit}
+use Rattle.tinkey_readable.specs.Runs.{IsCreated, IsEdit, told_session}
 
 -- The text is made of two things alone: bytes that this master sealed, of the binary form of the keyset; and
 -- the info of the keyset without its key messages and key material types.
@@ -78,19 +83,31 @@ LockedRunsPut = (table : Table) (asked : Asked) (told : Told) (put : SealedPut)
     → (keys : Keys) × Makes table told keys asked
     × PutsSealed table put.lock put.out told keys (answer (command_plan table asked) told)
 
--- The files of a session that saves its last keyset under a master have such a text more, and nothing else is
--- new; its output are the replies to its lines.
+-- Each file that the lines of a session under a master ask for, whatever it is given and however far it comes,
+-- has such a text, of the keyset after some edits.
+abbrev pub LockedLinesSave : Type 0
+LockedLinesSave = (table : Table) (over keys : Keys) (form : Format) (answers : StoreAnswers)
+    (taken random : List ℕ) (ended : Bool) (a : FileAsked)
+    → Contains (saving_session table (Some over) form keys answers taken random ended).asked a
+    → (saved : Keys) × IsEdited keys saved × ShowsInfoAlone table over saved form a.bytes
+
+-- these files have such a text of the last keyset more, where a file is named for it
+abbrev pub SavesLast : Table → (over last : Keys) → Option (List ℕ) → Format → (files new : Files) → Type 0
+SavesLast table over last None form files new = new ≡ files
+SavesLast table over last (Some file) form files new = (text : List ℕ)
+    × ShowsInfoAlone table over last form text × (new ≡ map.insert files file text)
+
+-- What is new after a session under a master that is Done are the files that its lines asked for, and that of the
+-- last keyset; its output are the replies to its lines.
 abbrev pub LockedSessionsSave : Type 0
-LockedSessionsSave = (table : Table) (lock : Master) (name file : List ℕ) (form of_out : Format)
+LockedSessionsSave = (table : Table) (lock : Master) (name : List ℕ) (form : Format) (out : KeysetFile)
     (told : Told)
-    → let a = answer (command_plan table
-    (session (Some lock) name form (record { file = Some file; form = of_out }))) told in
+    → let a = answer (command_plan table (session (Some lock) name form out)) told in
     a.status ≡ status.Done
     → (over old : Keys) × OpensMaster table lock told over
     × LiesBehind table (Some lock) (record { file = Some name; form = form }) told old
-    × (let x = talk table old told.input told.random true in (text : List ℕ)
-    × ShowsInfoAlone table over x.keys of_out text × (a.output ≡ x.output)
-    × (a.files ≡ map.insert told.files file text))
+    × (let x = told_session table (Some over) out.form old told in (a.output ≡ x.output)
+    × SavesLast table over x.keys out.file out.form (files_after told.files x.asked) a.files)
 
 -- Two keysets that differ in key messages and key material types alone, and whose binary forms have one length,
 -- have texts under one master, of the same random bytes, that differ in the sealed bytes alone; and these have

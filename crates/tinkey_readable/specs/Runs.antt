@@ -2,6 +2,7 @@
 --
 --   ReadIsStored   what is read is held to what the types of a record hold
 --   hands_on       where a command takes a keyset, and where it puts one
+--   told_lines     the lines of a told session, each as it is resolved
 --   Passage        one run that hands a keyset on, or two that wrap it and unwrap it later
 --   AreRuns        each reads what the one before put out, and is answered Done
 --   RunStep        what one run does to the keyset
@@ -12,6 +13,7 @@
 use Rattle.std.specs.Prelude.{◌≡◌, ℕ, ◌<◌, ◌≤◌, Bool, true, false, List, [], ◌∷◌, length, Option, Some, None, Ok}
 use Rattle.std.specs.FinMap as map
 use Rattle.std.specs.List.{AllByRecursion}
+use Rattle.std.specs.Option.{option_and_then}
 use Rattle.std.specs.Result.{result_ok}
 use Rattle.key_msgs.specs.Templates.{Row, row_named}
 use Rattle.keyset_json.specs.Reading.{reads_json}
@@ -25,8 +27,11 @@ use Rattle.tink_spec.specs.Files.{Files}
 use Rattle.tinkey_cmds.specs.Edits.{Edit, Stepped, first, step}
 use Rattle.tinkey_session.specs.HeldLaws.{AreBytes, AreStored}
 use Rattle.tinkey_session.specs.Laws.{IsEdited}
+use Rattle.tinkey_session.specs.Lines.{Line}
+use Rattle.tinkey_session.specs.Saving.{Form, StoreAnswers, by_files, resolved}
 use Rattle.tinkey_session.specs.Serving.{edit_named}
-use Rattle.tinkey_session.specs.Session.{Remains, asked_in, remains}
+use Rattle.tinkey_session.specs.Session.{Remains, asked_in, lines_by, remains}
+use Rattle.tinkey_session.specs.Talking.{Talk}
 use Rattle.wrapped_prims.specs.Candidates.{prefix_of}
 use Rattle.wrapped_prims.specs.Laws.{HasKey, HasSameKey}
 use Rattle.tinkey_plans.specs.declared.status.Status.TheVariants as status
@@ -34,9 +39,10 @@ use Rattle.tinkey_words.specs.declared.words.rows.Format.{Format}
 use Rattle.tinkey_words.specs.declared.words.rows.Format.TheVariants as formats
 use Rattle.tinkey_plans.specs.Commands.{command_plan}
 use Rattle.tinkey_plans.specs.Plan.{Answer, Told, answer}
+use Rattle.tinkey_plans.specs.Session.{form_under, saving_session}
 use Rattle.tinkey_plans.specs.Steps.{keyset_limit, written_in}
 use Rattle.tinkey_plans.specs.Using.{hex_line}
-use Rattle.tinkey_words.specs.Words.{Asked, AskedEdit, AskedWork, Master, Output, KeysetFile, as_taken, convert_keyset, create_keyset, edit_keyset, session, under, use_keyset, wrap_keyset, unwrap_keyset, to_seal, to_open, to_dseal, to_dopen, to_tag, to_verify}
+use Rattle.tinkey_words.specs.Words.{Asked, AskedEdit, AskedWork, Lock, Master, Output, KeysetFile, as_taken, convert_keyset, create_keyset, edit_keyset, session, under, use_keyset, wrap_keyset, unwrap_keyset, to_seal, to_open, to_dseal, to_dopen, to_tag, to_verify}
 
 -- the keyset that these bytes are, in this form
 abbrev pub read_in : Format → List ℕ → Option Keys
@@ -265,6 +271,29 @@ abbrev pub PassesBytes : Passage → Type 0
 PassesBytes (by_run run) = DrawsBytes run
 PassesBytes (by_wrap wrap locked unwrap) = DrawsBytes wrap × AllByRecursion DrawsBytes locked
 
+-- ---- the lines of a session
+
+-- these lines, each as it is resolved in a session over this keyset that saves it in this form, in a store
+-- that answers so
+abbrev pub saving_lines : Table → Form → StoreAnswers → Keys → List Line → (random : List ℕ) → List Line
+saving_lines table form answers keys lines random = lines_by table (resolved form answers) [] keys lines random
+
+-- the keyset of the master in the file of a lock, if there is one
+abbrev pub master_told : Lock → Told → Option Keys
+master_told None told = None
+master_told (Some lock) told = option_and_then (read_in lock.form) (map.get told.files lock.file)
+
+-- the lines of a told session that saves in clear or under a master: the store holds the files that are told,
+-- and doesn't fail
+abbrev pub told_lines : Table → (master : Option Keys) → Format → Keys → Told → List Line
+told_lines table master form keys told =
+    saving_lines table (form_under table master form) (by_files told.files) keys (asked_in told.input) told.random
+
+-- how such a session stands at the end of its input
+abbrev pub told_session : Table → (master : Option Keys) → Format → Keys → Told → Talk
+told_session table master form keys told =
+    saving_session table master form keys (by_files told.files) told.input told.random true
+
 -- ---- one run
 
 -- an edit was accepted
@@ -289,7 +318,9 @@ abbrev pub Does : Table → Told → (old new : Keys) → Asked → Type 0
 Does table told old new (edit_keyset lock edit in' out) = IsEdit edit told.random old new
 Does table told old new (convert_keyset lock how in' out) = old ≡ new
 Does table told old new (session lock name form out) =
-    (m : Remains) × (remains table old (asked_in told.input) told.random ≡ Some m) × (m.keys ≡ new)
+    (m : Remains)
+    × (remains table old (told_lines table (master_told lock told) out.form old told) told.random ≡ Some m)
+    × (m.keys ≡ new)
 Does table told old new _ = ⊥
 
 -- a run gave this keyset of that one, in bytes and within the limit of what is read, and it is held to

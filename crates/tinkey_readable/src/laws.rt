@@ -12,13 +12,14 @@ ghost use Rattle.tinkey_readable.specs.KeptTexts.{ReadsAfterCommands, ReadsByIts
 ghost use Rattle.tinkey_readable.specs.LibraryStreams.{LibraryStreamsOpen, StreamHandlesAreMade, StreamHandlesServe, WrappedStreamHandlesAreMade};
 ghost use Rattle.tinkey_readable.specs.LibraryTexts.{HandlesAreMade, HandlesServe, LibraryTagsVerify, LibraryTextsDopen, LibraryTextsOpen, WrappedHandlesAreMade};
 ghost use Rattle.tinkey_readable.specs.LineRuns.{MadeDopens, MadeDopensPresent, MadeOpens, MadeOpensPresent, MadeVerifies};
-ghost use Rattle.tinkey_readable.specs.LockedHiding.{LockedRunsPut, LockedSessionsSave, SealedAlike};
+ghost use Rattle.tinkey_readable.specs.LockedHiding.{LockedLinesSave, LockedRunsPut, LockedSessionsSave, SealedAlike};
 ghost use Rattle.tinkey_readable.specs.NamedRuns.{KeysAreNamed};
 ghost use Rattle.tinkey_readable.specs.RangeRuns.{RunsOpenRange};
 ghost use Rattle.tinkey_readable.specs.Readable.{AnswersAreReadable, SessionsAreReadable};
 ghost use Rattle.tinkey_readable.specs.Resealing.{ResealedDopens, ResealedEnvelopesOpen, ResealedOpens};
 ghost use Rattle.tinkey_readable.specs.ResealedStreams.{ResealedStreamsOpen};
 ghost use Rattle.tinkey_readable.specs.Runs.{LocksStep, ReadIsStored, RunStep, RunsDopen, RunsDopenPresent, RunsOpen, RunsOpenPresent, RunsUnwrap, RunsVerify, WrapStep};
+ghost use Rattle.tinkey_readable.specs.SavedLines.{LinesMake, SavedInClear, SavedUnderMaster};
 ghost use Rattle.tinkey_readable.specs.ServingTemplates.{StreamTemplatesServe, TemplatesServe};
 ghost use Rattle.tinkey_readable.specs.StreamFiles.{StreamsWholeOrAbsent};
 ghost use Rattle.tinkey_readable.specs.StreamRuns.{RunsOpenStream, RunsOpenStreamPresent};
@@ -36,8 +37,8 @@ use tinkey_cmds::laws::edits_keep_keysets;
 use tinkey_plans::laws::{commands_are_whole, done_exactly, fit_keysets_answer};
 use tinkey_session::laws::{
     edited_kept, kept_dopen, kept_dopen_present, kept_open, kept_open_present, kept_tag,
-    session_dopens, session_dopens_present, session_is_edits, session_opens, session_opens_present,
-    session_verifies, sound_kept, sound_usable, stored_kept, talk_is_turns,
+    saves_are_turns, session_dopens, session_dopens_present, session_is_edits, session_opens,
+    session_opens_present, session_verifies, sound_kept, sound_usable, stored_kept,
 };
 
 /// The written form of a keyset without a fault, binary or JSON, reads back to it: in the binary
@@ -70,7 +71,7 @@ pub fn run_step()
     forms_back();
     edits_keep_keysets();
     stored_kept();
-    talk_is_turns();
+    saves_are_turns();
     session_is_edits();
     edited_kept();
     read_is_stored();
@@ -100,7 +101,7 @@ pub fn locks_step()
     forms_back();
     edits_keep_keysets();
     stored_kept();
-    talk_is_turns();
+    saves_are_turns();
     session_is_edits();
     edited_kept();
     read_is_stored();
@@ -121,7 +122,7 @@ pub fn locks_serve()
     forms_back();
     edits_keep_keysets();
     stored_kept();
-    talk_is_turns();
+    saves_are_turns();
     session_is_edits();
     edited_kept();
     read_is_stored();
@@ -141,7 +142,7 @@ pub fn created_serve()
     forms_back();
     edits_keep_keysets();
     stored_kept();
-    talk_is_turns();
+    saves_are_turns();
     session_is_edits();
     edited_kept();
     read_is_stored();
@@ -205,8 +206,8 @@ pub fn files_stay()
 /// session among them disables, destroys or deletes its id, or enables another key under its
 /// prefix.
 ///
-/// The runs are runs of the top call, over objects that report their contents; the drawn bytes and
-/// the first keyset's file are bytes.
+/// The runs are runs of the top call, over objects that report their contents; in a session no call
+/// of the store fails. The drawn bytes and the first keyset's file are bytes.
 pub fn kept_by_commands()
     ensures { KeptByCommands }
 {
@@ -217,7 +218,7 @@ pub fn kept_by_commands()
     forms_back();
     edits_keep_keysets();
     stored_kept();
-    talk_is_turns();
+    saves_are_turns();
     session_is_edits();
     edited_kept();
     wrap_back_bytes();
@@ -245,7 +246,7 @@ pub fn ids_stay_distinct()
     forms_back();
     edits_keep_keysets();
     stored_kept();
-    talk_is_turns();
+    saves_are_turns();
     session_is_edits();
     edited_kept();
     wrap_back_bytes();
@@ -494,7 +495,7 @@ pub fn kept_lines()
     ensures verify { MadeVerifies }
 {
     kept_anywhere();
-    talk_is_turns();
+    saves_are_turns();
     run_step();
     locks_step();
     read_keysets_fit();
@@ -503,9 +504,38 @@ pub fn kept_lines()
     sound_usable();
 }
 
+/// A line `save` of a session that is answered ok has made a file of that name, which is there
+/// after the run: read back, it is the keyset as it was before that line; under a lock, each master
+/// that still opens it gives that keyset. What lines of that session sealed, resealed or tagged,
+/// before that line or after it, opens or verifies over that file if its ENABLED records serve the
+/// primitive and it has the key, ENABLED and alone under its prefix; so it does if the key was the
+/// primary one at both lines, and ids were distinct at first. While it has the key, ENABLED, what
+/// was sealed opens to some plaintext, whatever the prefix type, and a tag verifies. What such a
+/// line made is one of the texts that `kept_anywhere` and its kin speak of.
+pub fn saved_lines()
+    ensures clear { SavedInClear }
+    ensures locked { SavedUnderMaster }
+    ensures made { LinesMake }
+{
+    faultless_keysets();
+    forms_back();
+    read_is_stored();
+    wrap_back_bytes();
+    edits_keep_keysets();
+    stored_kept();
+    saves_are_turns();
+    session_is_edits();
+    edited_kept();
+    kept_anywhere();
+    sealings_fit();
+    kept_open();
+    kept_dopen();
+}
+
 /// What a run of a session wrote, over a keyset in clear or under a lock, are the replies of turns,
 /// which are readable under the standard managers: however the run ends, and also for each stated
-/// answer.
+/// answer. Lines that save the keyset are answered as the store did; and what one saved that was
+/// answered ok is in a file of that name after the run, unless a write failed.
 pub fn sessions_are_readable()
     ensures ended { SessionsAreReadable }
     ensures answered { AnswersAreReadable }
@@ -515,7 +545,7 @@ pub fn sessions_are_readable()
     session_opens_present();
     session_dopens_present();
     session_verifies();
-    talk_is_turns();
+    saves_are_turns();
     read_keysets_fit();
 }
 
@@ -575,9 +605,10 @@ pub fn ranges_done()
     ensures { RangesDone }
 {}
 
-/// A session is answered Done if and only if the keyset is there, the name of a new file free, the
-/// lines and their number within their limits, the random bytes suffice for them, and the last
-/// keyset, if it is to be saved, fits with the random bytes left.
+/// A session is answered Done if and only if the keyset is there, the name of a new file free and
+/// no line has saved the keyset under it, the lines and their number within their limits, the
+/// random bytes suffice for them, and the last keyset, if it is to be saved, fits with the random
+/// bytes left.
 pub fn sessions_done()
     ensures { SessionsDone }
 {}
@@ -615,15 +646,18 @@ pub fn listing_hides_keys()
 /// A run that puts a keyset under a master reveals of it, in all its output, only its info and
 /// sealed bytes: the new file, or standard output if no file is named, is one text made from these
 /// two alone, and nothing else is new. This holds for create-keyset, each edit and convert-keyset;
-/// and for a session, whose output is the replies to its lines. A refused run of the former puts
-/// out nothing, and one in which a write or the store fails at most the first bytes of that text
-/// (`stands` of run). Two keysets that differ only in key messages and key material types, with
+/// for each file that a line of a session asks for, however the session ends; and for a session at
+/// its end, whose output is the replies to its lines. A refused run of the former puts out nothing,
+/// and one in which a write or the store fails at most the first bytes of that text (`stands` of
+/// run). Two keysets that differ only in key messages and key material types, with
 /// binary forms of the same length, have texts that differ only in the sealed bytes, of the same
 /// length; list-keyset prints the same for both.
 pub fn locked_runs_hide()
     ensures puts { LockedRunsPut }
+    ensures lines { LockedLinesSave }
     ensures saves { LockedSessionsSave }
     ensures alike { SealedAlike }
 {
     text_hides_keys();
+    saves_are_turns();
 }

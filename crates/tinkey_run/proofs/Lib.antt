@@ -13,3 +13,4 @@ pub mod TemplateLemmas
 pub mod UseLemmas
 pub mod WordLemmas
 pub mod WrapLemmas
+pub mod WrittenLemmas

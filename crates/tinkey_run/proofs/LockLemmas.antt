@@ -12,8 +12,7 @@ use Rattle.tinkey_plans.specs.Ends.{World, Ends}
 use Rattle.tinkey_plans.specs.Handles.{handles, IsServing}
 use Rattle.tinkey_plans.specs.Locks.{keyset_under, limit_under, opens_lock, opens_master, opens_new_lock, put_origin, puts_under, takes_locked, takes_under, writes_under, Holds, IsLock, IsSomeLock, PassesLock}
 use Rattle.tinkey_plans.specs.Plan.{Plan, exchanges}
-use Rattle.tinkey_plans.specs.Session.{finds_free, holds_session, saves}
-use Rattle.tinkey_session.specs.Talking.{talk}
+use Rattle.tinkey_plans.specs.Session.{finds_free, holds_session, saves, saving_session}
 use Rattle.keyset_model.specs.declared.keyset.Keyset.{Keyset}
 use Rattle.tinkey_plans.specs.Steps.{keyset_in, keyset_limit, loads_keyset, makes_keyset, writes_keyset, Finishes, Passes, PassesAs}
 use Rattle.tinkey_plans.specs.Wrapping.{makes_wrapped, unwraps, wrapped_limit}
@@ -212,7 +211,7 @@ pub holds_then : {held : Option (Table × Keys × Held)} {table : Table} {master
 holds_then {table = table} {master = master} name form out old mid new keyset r lock one two = finishes_then {A = Keys} (takes_under origins.Keyset table master (record { file = Some name; form = form })) (holds_session table master out) old mid new keyset r one two
 
 pub not_free : {held : Option (Table × Keys × Held)} {table : Table} {master : Option Keys} (out : KeysetFile) (keys : Keys) (old new : World) (r : Result (Unit {0}) Status) (s : Status) → IsLock held table master → IsErrAnd r (λ e. e ≡ s) → Passes {A = Unit {0}} (finds_free out.file) old (Err s) new → Finishes (holds_session table master out keys) old r new
-not_free {table = table} {master = master} out keys old new r s lock is one = finished_there {A = Unit {0}} (finds_free out.file) (λ free. exchanges (talk table keys) (saves table master out)) old new r s is one
+not_free {table = table} {master = master} out keys old new r s lock is one = finished_there {A = Unit {0}} (finds_free out.file) (λ free. exchanges (saving_session table master out.form keys) (saves table master out)) old new r s is one
 
-pub free_then : {held : Option (Table × Keys × Held)} {table : Table} {master : Option Keys} (out : KeysetFile) (keys : Keys) (old mid new : World) (r : Result (Unit {0}) Status) → IsLock held table master → Passes (finds_free out.file) old (Ok tt) mid → Finishes (exchanges (talk table keys) (saves table master out)) mid r new → Finishes (holds_session table master out keys) old r new
-free_then {table = table} {master = master} out keys old mid new r lock one two = finishes_then (finds_free out.file) (λ free. exchanges (talk table keys) (saves table master out)) old mid new tt r one two
+pub free_then : {held : Option (Table × Keys × Held)} {table : Table} {master : Option Keys} (out : KeysetFile) (keys : Keys) (old mid new : World) (r : Result (Unit {0}) Status) → IsLock held table master → Passes (finds_free out.file) old (Ok tt) mid → Finishes (exchanges (saving_session table master out.form keys) (saves table master out)) mid r new → Finishes (holds_session table master out keys) old r new
+free_then {table = table} {master = master} out keys old mid new r lock one two = finishes_then (finds_free out.file) (λ free. exchanges (saving_session table master out.form keys) (saves table master out)) old mid new tt r one two

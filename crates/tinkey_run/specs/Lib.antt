@@ -1,3 +1,4 @@
 pub mod Lines
 pub mod Rooms
 pub mod StreamFile
+pub mod Written

@@ -10,6 +10,8 @@ ghost use Rattle.tinkey_plans.specs.Ends.{World};
 ghost use Rattle.tinkey_plans.specs.Handles.{IsServing};
 ghost use Rattle.tinkey_plans.specs.Locks.{keyset_under, limit_under, loads_locked, opens_lock, opens_master, puts_under, takes_locked, takes_under, writes_under, IsLock, IsSomeLock, PassesLock};
 ghost use Rattle.tinkey_plans.specs.Steps.{origin_of, Finishes, Passes};
+ghost use Rattle.tinkey_run.specs.Written.{form_held, with_status, write_status};
+ghost use Rattle.tinkey_session.specs.Writing.{Writes};
 ghost use Rattle.tinkey_words.specs.Words.{seen_lock, seen_master, seen_name, seen_place};
 
 use crate::output::{put, written};
@@ -22,6 +24,7 @@ use managers::{KeyTable, Managers};
 use std::alloc::Global;
 use tink_base::{Bytes, Entropy, Sink, Source, Store};
 use tinkey_plans::{Origin, Status};
+use tinkey_session::WriteError;
 use tinkey_words::{Format, KeysetFile, Master};
 use wrapped_prims::Handle;
 
@@ -265,7 +268,51 @@ pub(crate) fn load_locked<D: Store>(
     load_under(alloc, lock.as_ref(), name, form, store)
 }
 
-/// The keyset as written: in this form, in clear or under the lock.
+/// The keyset as written: in this form, in clear or under the lock. So it is written for a command
+/// and for a line of a session. Under a lock no IV is drawn for a keyset that is too long.
+pub(crate) fn write_under<E: Entropy>(
+    alloc: Global,
+    lock: Option<&OpenMaster<'_>>,
+    form: Format,
+    keyset: &Keyset,
+    entropy: &mut E,
+) -> Result<Bytes, WriteError>
+    requires lock { IsSomeLock (option_map
+        (λ h. (
+          ⟦<Managers as KeyTable>⟧.table h.now.handle.managers.now,
+          h.now.keyset,
+          h.now.handle.held,
+        )) lock) }
+    requires short { AllByRecursion IsShort keyset.now.records }
+    ensures passes { (w : World) (table : Table) (master : Option Keys) → IsLock
+        (option_map
+        (λ h. (
+          ⟦<Managers as KeyTable>⟧.table h.now.handle.managers.now,
+          h.now.keyset,
+          h.now.handle.held,
+        )) lock.entry)
+        table master → Passes (writes_under table master form keyset.now)
+        (record w { entropy = E.state entropy.old }) (with_status result)
+        (record w { entropy = E.state entropy.new }) }
+    ensures writes { Writes (form_held
+        (option_map
+        (λ h. (
+          ⟦<Managers as KeyTable>⟧.table h.now.handle.managers.now,
+          h.now.keyset,
+          h.now.handle.held,
+        )) lock.entry)
+        form) keyset.now result (E.state entropy.old) (E.state entropy.new) }
+{
+    match lock {
+        Some(master) => {
+            written(alloc, Format::Binary, keyset)?;
+            wrap_under(alloc, &master.handle, keyset, form, entropy)
+        }
+        None => written(alloc, form, keyset),
+    }
+}
+
+/// The same, or the status of a keyset that isn't written.
 pub(crate) fn written_under<E: Entropy>(
     alloc: Global,
     lock: Option<&OpenMaster<'_>>,
@@ -281,7 +328,8 @@ pub(crate) fn written_under<E: Entropy>(
         )) lock) }
     requires short { AllByRecursion IsShort keyset.now.records }
     ensures { (w : World) (table : Table) (master : Option Keys) → IsLock
-        (option_map (λ h. (
+        (option_map
+        (λ h. (
           ⟦<Managers as KeyTable>⟧.table h.now.handle.managers.now,
           h.now.keyset,
           h.now.handle.held,
@@ -289,12 +337,20 @@ pub(crate) fn written_under<E: Entropy>(
         table master → Passes (writes_under table master form keyset.now)
         (record w { entropy = E.state entropy.old }) result (record w { entropy = E.state entropy.new }) }
 {
-    match lock {
-        Some(master) => {
-            written(alloc, Format::Binary, keyset)?;
-            wrap_under(alloc, &master.handle, keyset, form, entropy)
-        }
-        None => written(alloc, form, keyset),
+    match write_under(alloc, lock, form, keyset, entropy) {
+        Ok(bytes) => Ok(bytes),
+        Err(error) => Err(unwritten(error)),
+    }
+}
+
+/// The status of a keyset that isn't written.
+fn unwritten(error: WriteError) -> Status
+    ensures { result ≡ write_status error }
+{
+    match error {
+        WriteError::Refused(_) => Status::KeysetOutgrown,
+        WriteError::EntropyFault => Status::EntropyFault,
+        WriteError::NoMemory => Status::NoMemory,
     }
 }
 

@@ -5,10 +5,11 @@ ghost use Rattle.std.specs.List.{AllByRecursion};
 ghost use Rattle.keyset_model.specs.Keyset.{IsShort};
 ghost use Rattle.tinkey_plans.specs.Plan.{Plan, writes, creates};
 ghost use Rattle.tinkey_plans.specs.Ends.{World};
-ghost use Rattle.tinkey_plans.specs.Steps.{written_in, within_limit, writes_keyset, puts, Finishes, Passes};
+ghost use Rattle.tinkey_plans.specs.Steps.{written_in, puts, Finishes, Passes};
 ghost use Rattle.tinkey_plans.specs.Using.{hex_line, shows};
 ghost use Rattle.tinkey_words.specs.Words.{seen_name};
 ghost use Rattle.tinkey_plans.specs.declared.status.Status.TheVariants as status;
+ghost use Rattle.tinkey_run.specs.Written.{IsWritten, kept_within};
 
 use crate::steps::KEYSET_LIMIT;
 use hex_lanes::encode_onto;
@@ -17,6 +18,7 @@ use keyset_model::{Keyset, write_binary};
 use std::alloc::Global;
 use tink_base::{Bytes, Created, NoMemory, Sink, Store, StoreError, write_all};
 use tinkey_plans::Status;
+use tinkey_session::{LineRefusal, WriteError};
 use tinkey_words::Format;
 
 /// Puts out a command's bytes, as its last step: into a new file or, if none is named, to the sink.
@@ -79,14 +81,14 @@ pub(crate) fn write_output<K: Sink>(sink: &mut K, output: &[u8]) -> Result<(), S
 }
 
 /// The written form of a keyset, if it is no longer than what is read as one.
-pub(crate) fn written(alloc: Global, form: Format, keyset: &Keyset) -> Result<Bytes, Status>
+pub(crate) fn written(alloc: Global, form: Format, keyset: &Keyset) -> Result<Bytes, WriteError>
     requires short { AllByRecursion IsShort keyset.now.records }
-    ensures passes { (w : World) → Passes (writes_keyset form keyset.now) w result w }
+    ensures is { IsWritten form keyset.now result }
     ensures within { IfOk result (λ bytes. length (written_in form keyset.now) ≤ KEYSET_LIMIT) }
 {
     match write_as(alloc, form, keyset) {
         Ok(bytes) => within(bytes, KEYSET_LIMIT),
-        Err(_) => Err(Status::NoMemory),
+        Err(_) => Err(WriteError::NoMemory),
     }
 }
 
@@ -102,14 +104,14 @@ fn write_as(alloc: Global, form: Format, keyset: &Keyset) -> Result<Vec<u8>, NoM
 }
 
 /// Bytes, at most `limit`, which is the limit of a keyset.
-pub(crate) fn within(bytes: Vec<u8>, limit: usize) -> Result<Bytes, Status>
-    ensures passes { (w : World) → Passes (λ next. within_limit limit next bytes.items) w result w }
+pub(crate) fn within(bytes: Vec<u8>, limit: usize) -> Result<Bytes, WriteError>
+    ensures is { result ≡ kept_within limit bytes.items }
     ensures within { IfOk result (λ kept. length bytes.items ≤ limit) }
 {
     if bytes.len() <= limit {
         Ok(Bytes::own(bytes))
     } else {
-        Err(Status::KeysetOutgrown)
+        Err(WriteError::Refused(LineRefusal::KeysetTooLong))
     }
 }
 

@@ -7,20 +7,20 @@ ghost use Rattle.managers.specs.Table.{Table};
 ghost use Rattle.tinkey_plans.specs.Ends.{World, talk_status, world};
 ghost use Rattle.tinkey_plans.specs.Locks.{takes_under, IsLock, IsSomeLock};
 ghost use Rattle.tinkey_plans.specs.Plan.{exchanges};
-ghost use Rattle.tinkey_session.specs.Talking.{talk as talking};
-ghost use Rattle.tinkey_plans.specs.Session.{finds_free, holds_session, saves, saves_as, session_plan};
+ghost use Rattle.tinkey_plans.specs.Session.{finds_free, holds_session, saves, saves_as, saving_session, session_plan};
 ghost use Rattle.tinkey_plans.specs.Steps.{Finishes, Passes};
 ghost use Rattle.tinkey_words.specs.Words.{seen_lock, seen_name, seen_place};
 
-use crate::locks::{OpenMaster, load_under, open_lock, written_under};
+use crate::locks::{OpenMaster, load_under, open_lock, write_under, written_under};
 use crate::output::create_file;
 use keyset_model::Keyset;
-use managers::{KeyTable, Managers};
+use managers::{AeadManager, DaeadManager, KeyManager, KeyTable, MacManager, Managers, PrfManager};
 use std::alloc::Global;
-use tink_base::{Entropy, Lookahead, Sink, Source, Store};
+use std::marker::PhantomData;
+use tink_base::{Bytes, Entropy, Lookahead, Sink, Source, Store};
 use tinkey_plans::{Origin, Status};
-use tinkey_session::TalkFault;
 use tinkey_session::talk::talk;
+use tinkey_session::{TalkFault, WriteError, Writer};
 use tinkey_words::{Format, KeysetFile, Master};
 
 /// session: answers the lines of the input over the keyset in the file of this name, and puts the
@@ -115,7 +115,85 @@ fn find_free<D: Store>(file: Option<&str>, store: &mut D) -> Result<(), Status>
     }
 }
 
-/// Answers all lines of the input over this keyset, and saves the last one.
+/// The boxes of a program's managers. A ghost member can't quote what contracts see of a type that
+/// owns boxes, so `SessionWriter` spells it out, and has this type beside it for their names.
+type Boxes = PhantomData<
+    (
+        Box<dyn AeadManager>,
+        Box<dyn DaeadManager>,
+        Box<dyn MacManager>,
+        Box<dyn PrfManager>,
+    ),
+>;
+
+/// Writes the keyset that a line saves, as the last one is written: in this form, in clear or under
+/// the lock.
+#[derive(Clone, Copy)]
+struct SessionWriter<'h, 'm> {
+    lock: Option<&'h OpenMaster<'m>>,
+    form: Format,
+    boxes: Boxes,
+}
+
+impl Writer for SessionWriter<'_, '_> {
+    ghost use Rattle.std.specs.Prelude.{option_map};
+    ghost use Rattle.managers.specs.Found.{or_standard};
+    ghost use Rattle.managers.specs.Table.{Table, entries_by};
+    ghost use Rattle.tinkey_plans.specs.Locks.{IsSomeLock};
+    ghost use Rattle.tinkey_run.specs.Written.{form_held};
+
+    ghost form = { λ writer. form_held
+        (option_map (λ h. (
+          or_standard (λ own. record {
+            aead = entries_by
+                (λ b. (AeadManager-box b).KeyManager.url b.value)
+                (λ b. (AeadManager-box b).KeyManager.scheme b.value) own.aead.items;
+            daead = entries_by
+                (λ b. (DaeadManager-box b).KeyManager.url b.value)
+                (λ b. (DaeadManager-box b).KeyManager.scheme b.value) own.daead.items;
+            mac = entries_by
+                (λ b. (MacManager-box b).KeyManager.url b.value)
+                (λ b. (MacManager-box b).KeyManager.scheme b.value) own.mac.items;
+            prf = entries_by
+                (λ b. (PrfManager-box b).KeyManager.url b.value)
+                (λ b. (PrfManager-box b).KeyManager.scheme b.value) own.prf.items;
+          }) h.now.handle.managers.now.supplied,
+          h.now.keyset,
+          h.now.handle.held,
+        )) writer.lock) writer.form };
+
+    ghost ready = { λ writer. IsSomeLock
+        (option_map (λ h. (
+          or_standard (λ own. record {
+            aead = entries_by
+                (λ b. (AeadManager-box b).KeyManager.url b.value)
+                (λ b. (AeadManager-box b).KeyManager.scheme b.value) own.aead.items;
+            daead = entries_by
+                (λ b. (DaeadManager-box b).KeyManager.url b.value)
+                (λ b. (DaeadManager-box b).KeyManager.scheme b.value) own.daead.items;
+            mac = entries_by
+                (λ b. (MacManager-box b).KeyManager.url b.value)
+                (λ b. (MacManager-box b).KeyManager.scheme b.value) own.mac.items;
+            prf = entries_by
+                (λ b. (PrfManager-box b).KeyManager.url b.value)
+                (λ b. (PrfManager-box b).KeyManager.scheme b.value) own.prf.items;
+          }) h.now.handle.managers.now.supplied,
+          h.now.keyset,
+          h.now.handle.held,
+        )) writer.lock) };
+
+    fn write<E: Entropy>(
+        &self,
+        alloc: Global,
+        keyset: &Keyset,
+        entropy: &mut E,
+    ) -> Result<Bytes, WriteError> {
+        write_under(alloc, self.lock, self.form, keyset, entropy)
+    }
+}
+
+/// Answers all lines of the input over this keyset, and saves the last one. A line that saves the
+/// keyset does it in the same form, in clear or under the same lock.
 fn answer_all<S: Source, K: Sink, E: Lookahead, D: Store>(
     alloc: Global,
     managers: &Managers,
@@ -141,13 +219,21 @@ fn answer_all<S: Source, K: Sink, E: Lookahead, D: Store>(
           h.now.handle.held,
         )) lock.entry)
         (⟦<Managers as KeyTable>⟧.table managers.now) master → Finishes
-        (exchanges (talking (⟦<Managers as KeyTable>⟧.table managers.now) keyset)
+        (exchanges (saving_session (⟦<Managers as KeyTable>⟧.table managers.now) master
+        (seen_place output.entry).form keyset)
         (saves (⟦<Managers as KeyTable>⟧.table managers.now) master (seen_place output.entry)))
         (world (S.state source.old) (K.state sink.old) (D.state store.old) (E.state entropy.old))
         result
         (world (S.state source.new) (K.state sink.new) (D.state store.new) (E.state entropy.new)) }
 {
-    match talk(alloc, keyset, managers, source, sink, entropy) {
+    let writer = SessionWriter {
+        lock,
+        form: output.form,
+        boxes: PhantomData,
+    };
+    match talk(
+        alloc, keyset, managers, &writer, source, sink, entropy, store,
+    ) {
         Ok(last) => save(alloc, lock, output, &last, entropy, store),
         Err(fault) => Err(ended(fault)),
     }

@@ -36,14 +36,21 @@ use tinkey_words::{Misuse, Request, parse};
 /// `promised` is over the plan of the words under the table of these managers, in its parts:
 /// `answer` is the stated answer, over objects that report their contents; `cause`, `shown` and
 /// `leaves` say when a fault comes, that none is hidden, and what was taken and written; `stands`
-/// says what the sink holds after any status; `complete` says that the status is a stated one if
-/// nothing fails and memory suffices; `ends`, from which they follow, lists each way in which a run
+/// says what sink and files hold after any status; `complete` says that the status is a stated one
+/// if nothing fails and memory suffices; `ends`, from which they follow, lists each way in which a run
 /// may end. `line` is the diagnostic line. `readable` is about sessions over a keyset, in clear or
 /// under a lock, over such objects: the replies to the first lines of the input were written, to
 /// all of them at `Done`, and at a write fault the first bytes of these. Under the program's
 /// managers a later line opens what a line sealed under a key with an output prefix to its
 /// plaintext, with its associated data, while that key is ENABLED and alone under its prefix; while
 /// it is there, ENABLED, to some plaintext, whatever its prefix type, and a tag verifies.
+///
+/// A line of a session may save the keyset, in a new file that is made before the run ends. If the
+/// store fails there, the reply says so, and the run goes on. So of a session `answer` holds if no
+/// call of the store failed, `shown` doesn't speak of the store, and `stands` doesn't speak of
+/// files. `leaves` does: it says for which files lines asked, and what became of each; that no other
+/// file has changed, unless the status is Done or StoreFault; and that the store failed only if the
+/// status is StoreFault or a reply says so.
 pub fn run<S: Source, K: Sink, G: Sink, E: Lookahead, D: PieceStore>(
     alloc: Global,
     words: &[String],

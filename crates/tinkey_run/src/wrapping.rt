@@ -10,7 +10,10 @@ ghost use Rattle.tinkey_plans.specs.Origins.{begins_of};
 ghost use Rattle.tinkey_plans.specs.Ends.{World};
 ghost use Rattle.tinkey_plans.specs.Steps.{OrStarved, Passes};
 ghost use Rattle.tinkey_plans.specs.Handles.{IsServing};
+ghost use Rattle.tinkey_plans.specs.Session.{form_sealed};
 ghost use Rattle.tinkey_plans.specs.Wrapping.{is_json, is_keyset, keyset_sealer, makes_wrapped, unopened_status, unwrap_refusal, unwraps};
+ghost use Rattle.tinkey_run.specs.Written.{with_status};
+ghost use Rattle.tinkey_session.specs.Writing.{Writes};
 
 use crate::locks::OpenMaster;
 use crate::output::within;
@@ -22,6 +25,7 @@ use seal_wrap::{UnwrapFault, WrapFault, encrypted_front, unwrap_keyset, wrap};
 use std::alloc::Global;
 use tink_base::{Bytes, Entropy, NoMemory};
 use tinkey_plans::{Begins, Origin, Status, Unopened, begins_of};
+use tinkey_session::WriteError;
 use tinkey_words::Format;
 use wrapped_prims::Handle;
 
@@ -35,20 +39,25 @@ pub(crate) fn wrap_under<E: Entropy>(
     keyset: &Keyset,
     form: Format,
     entropy: &mut E,
-) -> Result<Bytes, Status>
+) -> Result<Bytes, WriteError>
     requires serving { IsServing (⟦<Managers as KeyTable>⟧.table handle.now.managers.now) Aead
         handle.now.held }
     requires bound { length (binary_of keyset.now) ≤ 2 ^ 20 }
-    ensures { (w : World) (master : Keys)
+    ensures passes { (w : World) (master : Keys)
         → IsOver (⟦<Managers as KeyTable>⟧.table handle.now.managers.now) Aead master handle.now.held
         → Passes (makes_wrapped keyset.now master
         (⟦<Managers as KeyTable>⟧.table handle.now.managers.now) form)
-        (record w { entropy = E.state entropy.old }) result (record w { entropy = E.state entropy.new }) }
+        (record w { entropy = E.state entropy.old }) (with_status result)
+        (record w { entropy = E.state entropy.new }) }
+    ensures writes { (master : Keys)
+        → IsOver (⟦<Managers as KeyTable>⟧.table handle.now.managers.now) Aead master handle.now.held
+        → Writes (form_sealed (⟦<Managers as KeyTable>⟧.table handle.now.managers.now) master form)
+        keyset.now result (E.state entropy.old) (E.state entropy.new) }
 {
     match wrap(alloc, handle, keyset, is_json(form), entropy) {
         Ok(text) => within(text, WRAPPED_LIMIT),
-        Err(WrapFault::EntropyFault) => Err(Status::EntropyFault),
-        Err(WrapFault::NoMemory) => Err(Status::NoMemory),
+        Err(WrapFault::EntropyFault) => Err(WriteError::EntropyFault),
+        Err(WrapFault::NoMemory) => Err(WriteError::NoMemory),
     }
 }
 

@@ -14,7 +14,7 @@ use Rattle.tink_spec.proofs.Moves.{drew_nothing}
 use Rattle.tink_spec.specs.Outside.{EntropyState, Stood}
 use Rattle.tinkey_session.proofs.Options.{clash, no_truth}
 use Rattle.tinkey_session.specs.Answered.{Gives, Serves}
-use Rattle.tinkey_session.specs.Lines.{Seal, Dseal, Open, Dopen, Reseal, Dreseal, Tag, Verify, Derive}
+use Rattle.tinkey_session.specs.Lines.{Seal, Dseal, Open, Dopen, Tag, Verify, Derive}
 use Rattle.tinkey_session.specs.Serving.{Served, answered, by_handle, computed, derived_reply, opened_reply, sealed_reply, serve, unless_unfit, verified_reply}
 use Rattle.tinkey_session.specs.declared.reply.Reply.TheVariants as replies
 use Rattle.tinkey_session.specs.declared.reply.Reply.{Reply}

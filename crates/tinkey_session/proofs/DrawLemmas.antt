@@ -16,11 +16,11 @@ use Rattle.tinkey_cmds.specs.Edits.{Edit, EditOf, added, effect_of, grown, id_of
 use Rattle.tinkey_cmds.specs.Edits as edits
 use Rattle.tinkey_cmds.specs.declared.command.EditRefusal.{EditRefusal}
 use Rattle.tinkey_session.proofs.Options.{clash, map_some}
-use Rattle.tinkey_session.proofs.TurnLemmas.{asked_cases}
+use Rattle.tinkey_session.proofs.TurnLemmas.{asked_cases, saved_keeps}
 use Rattle.tinkey_session.specs.LineLaws.{LinesDrawFronts, RefusalsLeave}
 use Rattle.tinkey_session.specs.SessionLaws.{SessionGoesOn}
-use Rattle.tinkey_session.specs.Lines.{Line, Seal, Dseal, Open, Dopen, Reseal, Dreseal, Tag, Verify, Derive, Edit as AsksEdit, Bad}
-use Rattle.tinkey_session.specs.Serving.{cannot_serve, Served, answered, asked_line, computed, derived_reply, edit_line, edit_served, last_id, edited_reply, if_opened, sealed_reply, serve, stepped, unless_unfit}
+use Rattle.tinkey_session.specs.Lines.{Line, Seal, Dseal, Open, Dopen, Reseal, Dreseal, Tag, Verify, Derive, Edit as AsksEdit, Save, Outcome, Bad}
+use Rattle.tinkey_session.specs.Serving.{cannot_serve, Served, answered, asked_line, computed, derived_reply, edit_line, edit_served, last_id, edited_reply, drawn_size, if_opened, saved_line, saved_reply, sealed_reply, serve, stepped, unless_unfit}
 use Rattle.tinkey_session.specs.declared.reply.LineRefusal.{LineRefusal}
 use Rattle.tinkey_session.specs.declared.reply.LineRefusal.TheVariants.{OpenFailed, Refused}
 use Rattle.tinkey_session.specs.declared.reply.Reply.{Reply}
@@ -90,6 +90,25 @@ unfolding Fronts
 fronts-seal table keys plain ad None random x e = clash e
 fronts-seal table keys plain ad (Some r) random x e = fronts-under table keys plain ad r (key_of_record table Aead r) random x e
 
+pub saved-more : (keys : Keys) (outcome : Outcome) (front more : List ℕ) → length front ≡ drawn_size outcome → saved_line keys (front ++ more) outcome ≡ Some (answered keys more (saved_reply outcome.why))
+saved-more keys outcome front more is = rw (le-ltb (length (front ++ more)) (drawn_size outcome) (omega (arith, length-append front more, is)), drop_at front more (drawn_size outcome) is) refl
+
+fronts-saved : (keys : Keys) (outcome : Outcome) → Fronts (λ random. saved_line keys random outcome)
+unfolding Fronts
+fronts-saved keys outcome random x e = by (ltb (length random) (drawn_size outcome)) refl e
+  where
+    by : (b : Bool) → ltb (length random) (drawn_size outcome) ≡ b
+        → cond b None (Some (answered keys (drop (drawn_size outcome) random) (saved_reply outcome.why))) ≡ Some x
+        → (drawn : List ℕ) × (random ≡ drawn ++ x.left) × ((more : List ℕ) → saved_line keys (drawn ++ more) outcome ≡ Some (record x { left = more }))
+    by true t k = clash k
+    by false t k =
+        let same = same_Some _ _ k in (
+          take (drawn_size outcome) random,
+          sym (take-append-drop (drawn_size outcome) random) ∙ ap (λ y. take (drawn_size outcome) random ++ y.left) same,
+          λ more. saved-more keys outcome (take (drawn_size outcome) random) more (length-take-le (drawn_size outcome) random (ltb-false _ _ t))
+              ∙ ap (λ y. Some (with_left more y)) same,
+        )
+
 served-left : (edit : Edit) (keys : Keys) (answer : Result Keys EditRefusal) (left more : List ℕ) → edit_served edit keys answer more ≡ record (edit_served edit keys answer left) { left = more }
 served-left edit keys (Ok edited) left more = refl
 served-left edit keys (Err fault) left more = refl
@@ -141,6 +160,7 @@ fronts-line table keys (Tag body) random x e = fronts-unless (unfit keys Mac tab
 fronts-line table keys (Verify tag body) random x e = fronts-unless (unfit keys Mac table) keys _ (fronts-answered keys _) random x e
 fronts-line table keys (Derive size input) random x e = fronts-unless (unfit keys Prf table) keys (λ bytes. computed keys bytes (derived_reply size) (derive_answer keys table input size)) (fronts-computed keys (derived_reply size) (derive_answer keys table input size)) random x e
 fronts-line table keys (AsksEdit edit) random x e = fronts-asked keys edit random x e
+fronts-line table keys (Save name outcome) random x e = fronts-saved keys outcome random x e
 fronts-line table keys Bad random x e = fronts-answered keys _ random x e
 
 pub lines_draw_fronts : LinesDrawFronts
@@ -203,6 +223,10 @@ keeps-asked keys random asked x e = elim (asked_cases keys asked) [
   | inr refused ↦ keeps-answered keys random (Refuses refused.0) x (sym (refused.1 random) ∙ e)
 ]
 
+keeps-saved : (keys : Keys) (random : List ℕ) (outcome : Outcome) (x : Served) → saved_line keys random outcome ≡ Some x → KeepsRefused keys x
+unfolding KeepsRefused
+keeps-saved keys random outcome x e why is = sym (saved_keeps keys random outcome x e)
+
 keeps-line : (table : Table) (keys : Keys) (line : Line) (random : List ℕ) (x : Served) → serve table keys line random ≡ Some x → KeepsRefused keys x
 unfolding serve
 keeps-line table keys (Seal plain ad) random x e = keeps-unless (unfit keys Aead table) keys random _ x (keeps-sealed keys (seal_answer keys table plain ad random) x) e
@@ -215,6 +239,7 @@ keeps-line table keys (Tag body) random x e = keeps-unless (unfit keys Mac table
 keeps-line table keys (Verify tag body) random x e = keeps-unless (unfit keys Mac table) keys random _ x (keeps-answered keys random _ x) e
 keeps-line table keys (Derive size input) random x e = keeps-unless (unfit keys Prf table) keys random _ x (keeps-computed keys random (derived_reply size) (derive_answer keys table input size) x) e
 keeps-line table keys (AsksEdit edit) random x e = keeps-asked keys random edit x e
+keeps-line table keys (Save name outcome) random x e = keeps-saved keys random outcome x e
 keeps-line table keys Bad random x e = keeps-answered keys random _ x e
 
 pub refusals_leave : RefusalsLeave

@@ -1,8 +1,9 @@
 -- What edits answer, and which edit a line asks for.
-use Rattle.std.proofs.Common.{◌≡◌, ◌∙◌, refl, sym, ap, subst, ℕ, ◌+◌, ◌-◌, suc, List, [], ◌∷◌, length, Some, None, Result, Ok, Err, arith}
+use Rattle.std.proofs.Common.{◌≡◌, ◌∙◌, refl, sym, ap, subst, ℕ, ◌+◌, ◌-◌, suc, cond, List, [], ◌∷◌, length, Some, None, Result, Ok, Err, arith}
 use Rattle.std.specs.Borrow.{Bor}
 use Rattle.std.specs.Prelude.{slice_get}
 use Rattle.std.specs.Result.{IsErrAnd}
+use Rattle.std.proofs.lemmas.Bool.{le-ltb}
 use Rattle.std.proofs.lemmas.Option.{same_Some}
 use Rattle.key_msgs.specs.declared.template.Template.{Template}
 use Rattle.keyset_model.specs.Keyset.{Keys}
@@ -13,8 +14,8 @@ use Rattle.tinkey_session.proofs.Options.{clash}
 use Rattle.tinkey_session.specs.Keeping.{Asks, FindsEdit, IsUnedited, needs}
 use Rattle.tinkey_session.specs.Lines.{Line, Edit as AsksEdit}
 use Rattle.tinkey_session.specs.Reading.{seen_line}
-use Rattle.tinkey_session.specs.Serving.{edit_line, edited_reply, last_id, or_refused, refused_line, serve}
-use Rattle.tinkey_session.specs.declared.reply.Reply.TheVariants.{NewId}
+use Rattle.tinkey_session.specs.Serving.{answered, edit_line, edited_reply, last_id, or_refused, refused_line, serve}
+use Rattle.tinkey_session.specs.declared.reply.Reply.TheVariants.{NewId, Refuses}
 use Rattle.tinkey_session.specs.declared.line.Line.{Line as CodeLine}
 use Rattle.tinkey_session.specs.declared.line.Line.TheVariants as lines
 use Rattle.tinkey_session.specs.declared.reply.LineRefusal.{LineRefusal}
@@ -76,7 +77,7 @@ pub asks_error : (line : Line) (why : LineRefusal) (result : Result (KeysetEdit 
 asks_error line why (Ok command) is asks = absurd is
 asks_error line why (Err e) is asks = subst (λ w. Asks line (Err w)) (sym is) asks
 
--- a line that needs no keys and isn't an edit is bad
+-- a line that needs no keys and isn't an edit is bad, as is a save of a session that saves nowhere
 pub asks_nothing : (line : CodeLine) → needs (seen_line line) ≡ None → ((edit : KeysetEdit (Bor (List ℕ))) → line ≡ lines.Edit edit → ⊥)
     → Asks (seen_line line) (Err BadLine)
 unfolding serve
@@ -90,4 +91,5 @@ asks_nothing (lines.Tag body) keyless none = clash (sym keyless)
 asks_nothing (lines.Verify tag body) keyless none = clash (sym keyless)
 asks_nothing (lines.Derive size input) keyless none = clash (sym keyless)
 asks_nothing (lines.Edit edit) keyless none = absurd (none edit refl)
+asks_nothing (lines.Save name) keyless none = λ table keys random. ap (λ b. cond b None (Some (answered keys random (Refuses BadLine)))) (le-ltb (length random) 0 (omega arith))
 asks_nothing lines.Bad keyless none = λ table keys random. refl

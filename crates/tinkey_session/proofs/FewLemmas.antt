@@ -1,8 +1,8 @@
 -- A line that has 320 random bytes is answered, and draws no more.
-use Rattle.std.proofs.Common.{◌≡◌, ◌∙◌, inl, inr, refl, sym, ap, subst, ℕ, zero, suc, ◌+◌, ◌*◌, ◌≤◌, true, false, cond, List, [], ◌∷◌, ◌++◌, length, take, drop, Option, Some, None, Result, Ok, Err, option_map, arith}
+use Rattle.std.proofs.Common.{◌≡◌, ◌∙◌, inl, inr, refl, sym, ap, subst, ℕ, zero, suc, ◌+◌, ◌*◌, ◌≤◌, leb, Bool, true, false, cond, List, [], ◌∷◌, ◌++◌, length, take, drop, Option, Some, None, Result, Ok, Err, option_map, arith}
 use Rattle.std.specs.List.{AllByRecursion}
 use Rattle.std.specs.Option.{option_and_then}
-use Rattle.std.proofs.lemmas.Bool.{and_parts, le-ltb}
+use Rattle.std.proofs.lemmas.Bool.{and_parts, le-ltb, leb-true}
 use Rattle.std.proofs.lemmas.List.{length-drop}
 use Rattle.std.proofs.lemmas.Option.{same_Some}
 use Rattle.key_msgs.specs.Keys.{IsValid}
@@ -31,9 +31,9 @@ use Rattle.tinkey_session.proofs.Options.{clash}
 use Rattle.tinkey_session.proofs.TurnLemmas.{asked_cases}
 use Rattle.tinkey_session.proofs.UsableLemmas.{fit_reading}
 use Rattle.tinkey_session.specs.LineLaws.{FirstsDrawFew, LinesDrawFew}
-use Rattle.tinkey_session.specs.Lines.{Line, Seal, Dseal, Open, Dopen, Reseal, Dreseal, Tag, Verify, Derive, Edit as AsksEdit, Bad}
+use Rattle.tinkey_session.specs.Lines.{Line, Seal, Dseal, Open, Dopen, Reseal, Dreseal, Tag, Verify, Derive, Edit as AsksEdit, Save, Outcome, Bad}
 use Rattle.tinkey_session.specs.declared.reply.LineRefusal.TheVariants.{OpenFailed, Refused}
-use Rattle.tinkey_session.specs.Serving.{cannot_serve, Served, answered, asked_line, computed, derived_reply, edit_line, if_opened, sealed_reply, serve, stepped, unless_unfit}
+use Rattle.tinkey_session.specs.Serving.{cannot_serve, Served, answered, asked_line, computed, derived_reply, edit_line, drawn_size, if_opened, saved_line, saved_reply, sealed_reply, serve, stepped, unless_unfit}
 use Rattle.tinkey_session.specs.declared.reply.Reply.{Reply}
 use Rattle.tinkey_session.specs.declared.reply.Reply.TheVariants.{Gives, Refuses}
 use Rattle.wrapped_prims.proofs.OpenLemmas.{none_here}
@@ -208,6 +208,24 @@ few-asked keys random asked enough = elim (asked_cases keys asked) [
   | inr refused ↦ subst (Few random) (sym (refused.1 random)) (few-answered keys random (Refuses refused.0))
 ]
 
+drawn_few : (outcome : Outcome) → drawn_size outcome ≤ 16
+drawn_few outcome = by (leb outcome.size 16) refl
+  where
+    by : (b : Bool) → leb outcome.size 16 ≡ b → cond b outcome.size 16 ≤ 16
+    by true t = leb-true _ _ t
+    by false t = omega arith
+
+few-saved : (keys : Keys) (random : List ℕ) (outcome : Outcome) → 320 ≤ length random → Few random (saved_line keys random outcome)
+unfolding Few
+few-saved keys random outcome enough =
+    let few = drawn_few outcome in
+    let rest = length-drop (drawn_size outcome) random in
+    let x = answered keys (drop (drawn_size outcome) random) (saved_reply outcome.why) in (
+      x,
+      ap (λ b. cond b None (Some x)) (le-ltb (length random) (drawn_size outcome) (omega (arith, few, enough))),
+      omega (arith, rest, few, enough),
+    )
+
 few-line : (table : Table) (keys : Keys) (line : Line) (random : List ℕ) → fault_of keys ≡ None → 320 ≤ length random → Few random (serve table keys line random)
 unfolding serve
 few-line table keys (Seal plain ad) random k enough = few-unless (unfit keys Aead table) keys random _ (λ fit. few-seal table keys plain ad random enough (has_primary_key table Aead keys k fit))
@@ -226,6 +244,7 @@ few-line table keys (Verify tag body) random k enough = few-unless (unfit keys M
 few-line table keys (Derive size input) random k enough = few-unless (unfit keys Prf table) keys random _ (λ fit.
     few-computed keys random (derived_reply size) (derive_answer keys table input size) _ (derived_there table keys input size (has_primary_key table Prf keys k fit)))
 few-line table keys (AsksEdit edit) random k enough = few-asked keys random edit enough
+few-line table keys (Save name outcome) random k enough = few-saved keys random outcome enough
 few-line table keys Bad random k enough = few-answered keys random _
 
 pub lines_draw_few : LinesDrawFew

@@ -15,11 +15,11 @@ use Rattle.tinkey_session.proofs.DrawLemmas.{refusals_leave}
 use Rattle.tinkey_session.proofs.EnabledLemmas.{data_stays}
 use Rattle.tinkey_session.proofs.KeptKeyLemmas.{if_ok, kept_by_edits}
 use Rattle.tinkey_session.proofs.Options.{clash, map_some}
-use Rattle.tinkey_session.proofs.TurnLemmas.{answer_keeps, computed_keeps, handle_cases, opened_keeps, sealed_keeps, served_keys, named_row, same_Ok}
+use Rattle.tinkey_session.proofs.TurnLemmas.{answer_keeps, computed_keeps, handle_cases, opened_keeps, saved_keeps, sealed_keeps, served_keys, named_row, same_Ok}
 use Rattle.tinkey_session.specs.KeptKeys.{HasData, SparesData, EnablesNoOther, HasDistinctIds, Spares, SparesKey}
 use Rattle.tinkey_session.specs.KeptLines.{EachAcceptedLine, IsAccepted, KeptByLines, KeptBySession, LineIdsStayDistinct, LinesOfOthersSpare, OfEdit, SessionDataStays, SessionIdsStayDistinct}
 use Rattle.tinkey_session.specs.Laws.{kept}
-use Rattle.tinkey_session.specs.Lines.{Line, Seal, Dseal, Open, Dopen, Reseal, Dreseal, Tag, Verify, Derive, Edit as AsksEdit, Bad}
+use Rattle.tinkey_session.specs.Lines.{Line, Seal, Dseal, Open, Dopen, Reseal, Dreseal, Tag, Verify, Derive, Edit as AsksEdit, Save, Bad}
 use Rattle.tinkey_session.specs.Serving.{Served, asked_line, by_handle, edit_line, edit_named, or_refused, refused_line, sealed_reply, serve, stepped, template_of}
 use Rattle.tinkey_session.specs.Session.{Remains, Turn, remains, turn_then, turns}
 use Rattle.tinkey_session.specs.declared.reply.Refusal.{Refusal}
@@ -94,6 +94,7 @@ line_keeps P table keys (Tag body) random x p each e = subst P (handled_keeps Ma
 line_keeps P table keys (Verify tag body) random x p each e = subst P (handled_keeps Mac table keys random _ x e (answer_keeps keys random _ x)) p
 line_keeps P table keys (Derive size input) random x p each e = subst P (handled_keeps Prf table keys random _ x e (computed_keeps keys random _ (derive_answer keys table input size) x)) p
 line_keeps P table keys (AsksEdit asked) random x p each e = asked_keeps P keys random asked x p each e
+line_keeps P table keys (Save name outcome) random x p each e = subst P (saved_keeps keys random outcome x e) p
 line_keeps P table keys Bad random x p each e = subst P (answer_keeps keys random _ x e) p
 
 -- what holds of each edit that a line may ask for holds of the line's
@@ -108,6 +109,7 @@ each_edit_of P keys random (Tag body) each = tt
 each_edit_of P keys random (Verify tag body) each = tt
 each_edit_of P keys random (Derive size input) each = tt
 each_edit_of P keys random (AsksEdit asked) each = each asked refl
+each_edit_of P keys random (Save name outcome) each = tt
 each_edit_of P keys random Bad each = tt
 
 -- a refused line leaves the keyset
@@ -215,6 +217,7 @@ line_of_other keys r prefix has held (Tag body) spares = tt
 line_of_other keys r prefix has held (Verify tag body) spares = tt
 line_of_other keys r prefix has held (Derive size input) spares = tt
 line_of_other keys r prefix has held (AsksEdit asked) spares = record { spares = spares; no_other = no_other keys r prefix asked held.apart held.words has held.key }
+line_of_other keys r prefix has held (Save name outcome) spares = tt
 line_of_other keys r prefix has held Bad spares = tt
 
 others_spare : (table : Table) (r : Record) (prefix : List ℕ) → prefix_of r ≡ Some prefix → (lines : List Line) (keys : Keys) (random : List ℕ) → IsHeld r keys → EachAcceptedLine table (λ keys. Spares r.id) keys lines random → EachAcceptedLine table (SparesKey r) keys lines random

@@ -25,6 +25,10 @@ pub mod FeedLemmas
 pub mod TalkLemmas
 pub mod TalkTurns
 pub mod TurnLemmas
+pub mod UnsavedLemmas
+pub mod SaveLemmas
+pub mod SavedLemmas
 pub mod SessionLemmas
+pub mod StoreLemmas
 pub mod StoredLemmas
 pub mod WithinLemmas

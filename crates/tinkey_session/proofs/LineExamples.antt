@@ -1,16 +1,18 @@
 -- Lines by computation: each form of the grammar, and its edges.
 use Rattle.std.proofs.Common.{◌≡◌, refl, [], ◌∷◌, ◌++◌, codes}
 use Rattle.std.specs.Prelude.{⊤}
+use Rattle.std.specs.Path.{path_file_name, rsplit_once, split_last_component, trim_trailing}
 use Rattle.std.specs.Str.{chars, is_utf8}
 use Rattle.hex.proofs.OnLiterals.{hex_on_literals}
 use Rattle.tink_base.specs.Decimal.{number_in}
 use Rattle.tinkey_cmds.specs.Edits.{Add, Rotate, Promote, Enable, Disable, Destroy, Delete}
-use Rattle.tinkey_session.specs.Lines.{Seal, Dseal, Open, Dopen, Reseal, Dreseal, Tag, Verify, Derive, Edit, Bad, line_of}
+use Rattle.tinkey_session.specs.Lines.{Seal, Dseal, Open, Dopen, Reseal, Dreseal, Tag, Verify, Derive, Edit, Save, nowhere, Bad, line_of}
 use Rattle.tinkey_session.specs.Session.{lines_of}
+use Rattle.tinkey_words.specs.Rows.{is_temporary, is_value}
 
 -- what unfolds to read a line that is a literal
 unfoldable pub line_on_literals : ⊤
-unfolding line_of number_in is_utf8 chars hex_on_literals lib.Utf8.encode
+unfolding line_of number_in is_utf8 chars hex_on_literals lib.Utf8.encode is_value is_temporary path_file_name split_last_component trim_trailing rsplit_once
 line_on_literals = tt
 
 -- each form, and what its words may be
@@ -31,8 +33,9 @@ forms :
     × (line_of (codes "disable 4294967295") ≡ Edit (Disable 4294967295))
     × (line_of (codes "destroy 0000000007") ≡ Edit (Destroy 7))
     × (line_of (codes "delete 9") ≡ Edit (Delete 9))
+    × (line_of (codes "save a/b.json") ≡ Save (codes "a/b.json") nowhere)
 unfolding line_on_literals
-forms = (refl, refl, refl, refl, refl, refl, refl, refl, refl, refl, refl, refl, refl, refl, refl, refl)
+forms = (refl, refl, refl, refl, refl, refl, refl, refl, refl, refl, refl, refl, refl, refl, refl, refl, refl)
 
 -- a tab, a carriage return or a letter of two bytes may stand in a name
 names :
@@ -51,6 +54,14 @@ counts :
     × (line_of (codes "tag ") ≡ Bad) × (line_of (codes "add ") ≡ Bad) × (line_of (codes "tag -\r") ≡ Bad)
 unfolding line_on_literals
 counts = (refl, refl, refl, refl, refl, refl, refl, refl, refl, refl, refl, refl, refl, refl)
+
+-- a new file has a name, which is no dash and no temporary name
+files :
+    (line_of (codes "save ") ≡ Bad) × (line_of (codes "save -") ≡ Bad) × (line_of (codes "save ./-") ≡ Save (codes "./-") nowhere)
+    × (line_of (codes "save .tinkey-new-0") ≡ Bad) × (line_of (codes "save a/.tinkey-new-0") ≡ Bad)
+    × (line_of (codes "save .tinkey-new-0/a") ≡ Save (codes ".tinkey-new-0/a") nowhere)
+unfolding line_on_literals
+files = (refl, refl, refl, refl, refl, refl)
 
 -- words of another form: a name in capitals, an odd number of digits, what is no digit, a number that is too
 -- long or too large, or has a sign, and bytes that aren't UTF-8

@@ -1,5 +1,5 @@
 -- A session's turns, and the edits that lead to each.
-use Rattle.std.proofs.Common.{◌≡◌, ◌∙◌, ◌⊎◌, inl, inr, refl, sym, ap, subst, ℕ, zero, suc, ◌<◌, Bool, List, [], ◌∷◌, ◌++◌, Option, Some, None, Result, Ok, Err, arith, option_map}
+use Rattle.std.proofs.Common.{◌≡◌, ◌∙◌, ◌⊎◌, inl, inr, refl, sym, ap, subst, ℕ, zero, suc, ltb, ◌<◌, Bool, true, false, cond, List, [], ◌∷◌, ◌++◌, length, drop, Option, Some, None, Result, Ok, Err, arith, option_map}
 use Rattle.std.specs.Prelude.{slice_get}
 use Rattle.std.specs.Option.{option_and_then}
 use Rattle.std.specs.Str.{bytes_eq}
@@ -18,8 +18,8 @@ use Rattle.tinkey_cmds.specs.declared.command.EditRefusal.{EditRefusal}
 use Rattle.tinkey_session.proofs.Options.{clash, map_some}
 use Rattle.tinkey_session.specs.Laws.{Asked, IsAsked, IsEdited, after, kept}
 use Rattle.tinkey_session.specs.SessionLaws.{SessionIsEdits}
-use Rattle.tinkey_session.specs.Lines.{Line, Seal, Dseal, Open, Dopen, Reseal, Dreseal, Tag, Verify, Derive, Edit as AsksEdit, Bad}
-use Rattle.tinkey_session.specs.Serving.{cannot_serve, Served, answered, asked_line, by_handle, computed, edit_line, edit_named, edit_served, if_opened, or_refused, refused_line, sealed_reply, serve, stepped, template_of, template_or, unless_unfit}
+use Rattle.tinkey_session.specs.Lines.{Line, Seal, Dseal, Open, Dopen, Reseal, Dreseal, Tag, Verify, Derive, Edit as AsksEdit, Save, Outcome, Bad}
+use Rattle.tinkey_session.specs.Serving.{cannot_serve, Served, answered, asked_line, by_handle, computed, edit_line, drawn_size, edit_named, edit_served, if_opened, or_refused, refused_line, saved_line, saved_reply, sealed_reply, serve, stepped, template_of, template_or, unless_unfit}
 use Rattle.tinkey_session.specs.declared.reply.LineRefusal.{LineRefusal}
 use Rattle.tinkey_session.specs.declared.reply.Refusal.{Refusal}
 use Rattle.tinkey_session.specs.declared.reply.LineRefusal.TheVariants.{OpenFailed, Refused}
@@ -145,6 +145,14 @@ opened_keeps keys random None next x each e = answer_keeps keys random (Refuses 
 pub sealed_keeps : (keys : Keys) (sealed : Option Sealed) (x : Served) → option_map (sealed_reply keys) sealed ≡ Some x → keys ≡ x.keys
 sealed_keeps keys sealed x k = ap (λ y. y.keys) (map_some (sealed_reply keys) sealed x k).2
 
+-- a save leaves the keyset
+pub saved_keeps : (keys : Keys) (random : List ℕ) (outcome : Outcome) (x : Served) → saved_line keys random outcome ≡ Some x → keys ≡ x.keys
+saved_keeps keys random outcome x e = by (ltb (length random) (drawn_size outcome)) e
+  where
+    by : (b : Bool) → cond b None (Some (answered keys (drop (drawn_size outcome) random) (saved_reply outcome.why))) ≡ Some x → keys ≡ x.keys
+    by true k = clash k
+    by false k = answer_keeps keys (drop (drawn_size outcome) random) (saved_reply outcome.why) x k
+
 -- ---- every line
 
 pub serve_leaves : (table : Table) (keys : Keys) (line : Line) (random : List ℕ) (x : Served) → serve table keys line random ≡ Some x → Leaves keys random x
@@ -160,6 +168,7 @@ serve_leaves table keys (Tag body) random x e = handled Mac table keys random _ 
 serve_leaves table keys (Verify tag body) random x e = handled Mac table keys random _ x e (answer_keeps keys random _ x)
 serve_leaves table keys (Derive size input) random x e = handled Prf table keys random _ x e (computed_keeps keys random _ (derive_answer keys table input size) x)
 serve_leaves table keys (AsksEdit edit) random x e = asked_leaves keys edit random x e
+serve_leaves table keys (Save name outcome) random x e = inl (saved_keeps keys random outcome x e)
 serve_leaves table keys Bad random x e = inl (answer_keeps keys random _ x e)
 
 pub serve_edits : (table : Table) (keys : Keys) (line : Line) (random : List ℕ) (x : Served) → serve table keys line random ≡ Some x → IsEdited keys x.keys

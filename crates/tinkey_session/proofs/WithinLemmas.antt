@@ -9,7 +9,7 @@ use Rattle.hex.specs.declared.error.FromHexError.TheVariants as hex_errors
 use Rattle.hex.proofs.HexLemmas.{decode_pairs-ok}
 use Rattle.tinkey_cmds.specs.Edits.{Add, Rotate, Promote, Enable, Disable, Destroy, Delete}
 use Rattle.tink_base.specs.Decimal.{number_in}
-use Rattle.tinkey_session.specs.Lines.{Line, Seal, Dseal, Open, Dopen, Reseal, Dreseal, Tag, Verify, Derive, Edit, Bad, bytes_in, line_of, line_of_words, line_with_bytes, line_with_id, line_with_one, line_with_two, name_in, with_one, with_two, words_of}
+use Rattle.tinkey_session.specs.Lines.{Line, Seal, Dseal, Open, Dopen, Reseal, Dreseal, Tag, Verify, Derive, Edit, Save, nowhere, Bad, bytes_in, file_in, line_of, line_of_words, line_with_bytes, line_with_id, line_with_one, line_with_two, name_in, with_one, with_two, words_of}
 use Rattle.tinkey_session.specs.Reading.{IsWithin}
 
 -- ---- words
@@ -69,18 +69,21 @@ id_within most name id = by (bytes_eq name (codes "promote")) (bytes_eq name (co
     by false false false false false = tt
 
 one_within : (most : ℕ) (name a : List ℕ) → length a ≤ most → IsWithin most (line_with_one name a)
-one_within most name a le = by (bytes_eq name (codes "tag")) (bytes_eq name (codes "add")) (bytes_eq name (codes "rotate")) (bytes_in a) (bytes_fit most a le) (name_in a) (number_in a)
+one_within most name a le = by (bytes_eq name (codes "tag")) (bytes_eq name (codes "add")) (bytes_eq name (codes "rotate")) (bytes_eq name (codes "save")) (bytes_in a) (bytes_fit most a le) (name_in a) (file_in a) (number_in a)
   where
-    by : (tag add rotate : Bool) (bytes : Option (List ℕ)) → Fits most bytes → (named : Option (List ℕ)) (number : Option ℕ)
-        → IsWithin most (cond tag (with_one Tag bytes) (cond add (with_one (λ name. Edit (Add name)) named) (cond rotate (with_one (λ name. Edit (Rotate name)) named) (with_one (line_with_id name) number))))
-    by true add rotate (Some bytes) fits named number = fits
-    by true add rotate None fits named number = tt
-    by false true rotate bytes fits (Some template) number = tt
-    by false true rotate bytes fits None number = tt
-    by false false true bytes fits (Some template) number = tt
-    by false false true bytes fits None number = tt
-    by false false false bytes fits named (Some id) = id_within most name id
-    by false false false bytes fits named None = tt
+    by : (tag add rotate save : Bool) (bytes : Option (List ℕ)) → Fits most bytes → (named file : Option (List ℕ)) (number : Option ℕ)
+        → IsWithin most (cond tag (with_one Tag bytes) (cond add (with_one (λ name. Edit (Add name)) named) (cond rotate (with_one (λ name. Edit (Rotate name)) named)
+        (cond save (with_one (λ name. Save name nowhere) file) (with_one (line_with_id name) number)))))
+    by true add rotate save (Some bytes) fits named file number = fits
+    by true add rotate save None fits named file number = tt
+    by false true rotate save bytes fits (Some template) file number = tt
+    by false true rotate save bytes fits None file number = tt
+    by false false true save bytes fits (Some template) file number = tt
+    by false false true save bytes fits None file number = tt
+    by false false false true bytes fits named (Some name) number = refl
+    by false false false true bytes fits named None number = tt
+    by false false false false bytes fits named file (Some id) = id_within most name id
+    by false false false false bytes fits named file None = tt
 
 both_within : (most : ℕ) (name a b : List ℕ) → length a ≤ most → length b ≤ most → IsWithin most (line_with_bytes name a b)
 both_within most name a b le less = by (bytes_eq name (codes "seal")) (bytes_eq name (codes "open")) (bytes_eq name (codes "dseal")) (bytes_eq name (codes "dopen")) (bytes_eq name (codes "verify")) (bytes_eq name (codes "reseal")) (bytes_eq name (codes "dreseal"))
@@ -119,7 +122,7 @@ words_within most (name ∷ a ∷ []) are = one_within most name a are.1.0
 words_within most (name ∷ a ∷ b ∷ []) are = two_within most name a b are.1.0 are.1.1.0
 words_within most (name ∷ a ∷ b ∷ c ∷ words) are = tt
 
-line_within : (line : List ℕ) → IsWithin (length line) (line_of line)
+pub line_within : (line : List ℕ) → IsWithin (length line) (line_of line)
 unfolding line_of
 line_within line = by (is_utf8 line)
   where
@@ -143,6 +146,7 @@ within_limit least most (Tag body) le is = omega (arith, is, le)
 within_limit least most (Verify tag body) le is = let a = is.0 in let b = is.1 in (omega (arith, a, le), omega (arith, b, le))
 within_limit least most (Derive size input) le is = omega (arith, is, le)
 within_limit least most (Edit edit) le is = tt
+within_limit least most (Save name outcome) le is = is
 within_limit least most Bad le is = tt
 
 pub all_within : {A E : Type 0} (seen : A → Line) (line : List ℕ) (r : Result A E) → IfOk r (λ read. seen read ≡ line_of line) → IfOk r (λ read. IsWithin (length line) (seen read))

@@ -8,6 +8,7 @@ pub mod Laws
 pub mod LineLaws
 pub mod Lines
 pub mod Reading
+pub mod Saving
 pub mod Serving
 pub mod Session
 pub mod SessionLaws
@@ -15,3 +16,4 @@ pub mod TalkLaws
 pub mod Talking
 pub mod Talks
 pub mod Texts
+pub mod Writing

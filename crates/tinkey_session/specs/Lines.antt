@@ -1,19 +1,38 @@
 -- The grammar of one line of a session, a list of bytes without its newline.
 --
 --   Line           what a line asks
+--   Outcome        what becomes of a keyset that is to be saved
 --   bytes_in       the bytes that a word spells in hexadecimal
 --   word_of        the word that spells bytes
+--   file_in        the name of a new file that a word is
 --   line_of        what the bytes of a line ask
 --
 -- Words are separated by one space each: what stands between two spaces is a word, also an empty
--- one. An edit's template stands by its name, whether or not there is one of that name.
-use Rattle.std.specs.Prelude.{ℕ, ◌^◌, List, [], ◌∷◌, length, Bool, ◌&&◌, ◌==◌, nat_le, nat_lt, Option, Some, None, if◌then◌else◌, codes}
+-- one. An edit's template stands by its name, whether or not there is one of that name. What becomes of a save is no
+-- matter of its words: as a line is read, it is saved nowhere.
+use Rattle.std.specs.Prelude.{ℕ, List, [], ◌∷◌, length, ◌==◌, Option, Some, None, if◌then◌else◌, codes}
 use Rattle.std.specs.List.{slice_split}
 use Rattle.std.specs.Result.{result_ok}
 use Rattle.std.specs.Str.{bytes_eq, is_utf8}
 use Rattle.tink_base.specs.Decimal.{number_in}
 use Rattle.hex.specs.Hex.{decode_of, encode_lower}
 use Rattle.tinkey_cmds.specs.Edits.{EditOf, Add, Rotate, Promote, Enable, Disable, Destroy, Delete}
+use Rattle.tinkey_session.specs.declared.reply.LineRefusal.{LineRefusal}
+use Rattle.tinkey_session.specs.declared.reply.LineRefusal.TheVariants.{BadLine}
+use Rattle.tinkey_words.specs.Rows.{is_value}
+use Rattle.tinkey_words.specs.declared.words.rows.ValueForm.TheVariants as forms
+
+-- What becomes of a keyset that is to be saved: the random bytes that are drawn to write it, an IV at most, of which
+-- 16 are the most that count; why the line is refused, if it is; and the bytes that a file was to have, where one
+-- was asked for.
+pub record Outcome : Type 0 where
+  pub size : ℕ
+  pub why : Option LineRefusal
+  pub file : Option (List ℕ)
+
+-- a session that saves nothing refuses the line as a bad one
+abbrev pub nowhere : Outcome
+nowhere = record { size = 0; why = Some BadLine; file = None }
 
 -- what a line asks
 pub data Line : Type 0 where
@@ -26,6 +45,8 @@ pub data Line : Type 0 where
   Derive : (size : ℕ) (input : List ℕ) → Line
   -- an edit, by the name of a template or the id of a record
   Edit : (edit : EditOf (List ℕ)) → Line
+  -- the keyset as it is becomes a new file of this name, and this becomes of it
+  Save : (name : List ℕ) (outcome : Outcome) → Line
   -- any other line
   Bad : Line
 
@@ -50,6 +71,10 @@ word_of (b ∷ bytes) = encode_lower (b ∷ bytes)
 -- a name isn't empty
 abbrev pub name_in : List ℕ → Option (List ℕ)
 name_in word = if length word == 0 then None else Some word
+
+-- the name of a new file, as `--out` of a session takes it: not empty, no dash, and no temporary name
+abbrev pub file_in : List ℕ → Option (List ℕ)
+file_in word = if is_value forms.NewFile word then Some word else None
 
 -- ---- lines
 
@@ -79,7 +104,8 @@ line_with_one name a =
     if bytes_eq name (codes "tag") then with_one Tag (bytes_in a)
     else (if bytes_eq name (codes "add") then with_one (λ name. Edit (Add name)) (name_in a)
     else (if bytes_eq name (codes "rotate") then with_one (λ name. Edit (Rotate name)) (name_in a)
-    else with_one (line_with_id name) (number_in a)))
+    else (if bytes_eq name (codes "save") then with_one (λ name. Save name nowhere) (file_in a)
+    else with_one (line_with_id name) (number_in a))))
 
 -- the lines of a name and twice bytes
 abbrev pub line_with_bytes : (name a b : List ℕ) → Line

@@ -1,8 +1,8 @@
 -- What the code's lines stand for.
 use Rattle.std.specs.Borrow.{Bor}
-use Rattle.std.specs.Prelude.{ℕ, ◌≤◌, List, length, Option, option_map}
+use Rattle.std.specs.Prelude.{◌≡◌, ℕ, ◌≤◌, List, length, Option, option_map}
 use Rattle.tinkey_cmds.specs.Edits.{seen_by}
-use Rattle.tinkey_session.specs.Lines.{Line, Seal, Dseal, Open, Dopen, Reseal, Dreseal, Tag, Verify, Derive, Edit, Bad}
+use Rattle.tinkey_session.specs.Lines.{Line, Seal, Dseal, Open, Dopen, Reseal, Dreseal, Tag, Verify, Derive, Edit, Save, nowhere, Bad}
 use Rattle.tinkey_session.specs.declared.line.Line.{Line as CodeLine}
 use Rattle.tinkey_session.specs.declared.line.Line.TheVariants as lines
 
@@ -18,13 +18,14 @@ seen_line (lines.Tag body) = Tag body
 seen_line (lines.Verify tag body) = Verify tag body
 seen_line (lines.Derive size input) = Derive size input
 seen_line (lines.Edit edit) = Edit (seen_by (λ name. name.now) edit)
+seen_line (lines.Save name) = Save name.now nowhere
 seen_line lines.Bad = Bad
 
 -- a name, where there is one, as its bytes
 abbrev pub seen_name : Option (Bor (List ℕ)) → Option (List ℕ)
 seen_name name = option_map (λ name. name.now) name
 
--- each list of bytes that the line spells has at most so many
+-- each list of bytes that the line spells has at most so many; and what is to be saved is saved nowhere yet
 abbrev pub IsWithin : ℕ → Line → Type 0
 IsWithin most (Seal plain ad) = (length plain ≤ most) × (length ad ≤ most)
 IsWithin most (Dseal plain ad) = (length plain ≤ most) × (length ad ≤ most)
@@ -35,4 +36,5 @@ IsWithin most (Dreseal sealed ad) = (length sealed ≤ most) × (length ad ≤ m
 IsWithin most (Tag body) = length body ≤ most
 IsWithin most (Verify tag body) = (length tag ≤ most) × (length body ≤ most)
 IsWithin most (Derive size input) = length input ≤ most
+IsWithin most (Save name outcome) = outcome ≡ nowhere
 IsWithin most _ = Unit {0}

@@ -6,7 +6,7 @@
 --
 -- The causes of a refusal come in this order: the line's form, its template, the first record that
 -- can't serve, what the edit or the length is refused for, the draws, the computing.
-use Rattle.std.specs.Prelude.{ℕ, List, [], ◌∷◌, Bool, true, false, Option, Some, None, option_map, Result, Ok, Err}
+use Rattle.std.specs.Prelude.{ℕ, List, [], ◌∷◌, length, drop, nat_le, nat_lt, Bool, true, false, Option, Some, None, option_map, Result, Ok, Err, if◌then◌else◌}
 use Rattle.key_msgs.specs.Templates.{Row, is_asymmetric, row_named}
 use Rattle.key_msgs.specs.declared.primitive.Primitive.{Primitive}
 use Rattle.key_msgs.specs.declared.primitive.Primitive.TheVariants.{Aead, Daead, Mac, Prf}
@@ -16,10 +16,11 @@ use Rattle.managers.specs.Table.{Table}
 use Rattle.tinkey_cmds.specs.Edits.{Edit, EditOf, Stepped, edit_then, step}
 use Rattle.tinkey_cmds.specs.Edits as edits
 use Rattle.tinkey_cmds.specs.declared.command.EditRefusal.{EditRefusal}
-use Rattle.tinkey_session.specs.Lines.{Line, Seal, Dseal, Open, Dopen, Reseal, Dreseal, Tag, Verify, Derive, Edit as AsksEdit, Bad}
+use Rattle.tinkey_session.specs.Lines.{Line, Seal, Dseal, Open, Dopen, Reseal, Dreseal, Tag, Verify, Derive, Edit as AsksEdit, Save, Outcome, Bad}
 use Rattle.tinkey_session.specs.declared.reply.Refusal.{Refusal}
 use Rattle.tinkey_session.specs.declared.reply.Refusal.TheVariants.{AsymmetricTemplate, Command, OutputTooLong, UnknownTemplate, VerifyFailed}
 use Rattle.tinkey_session.specs.declared.reply.Refusal.TheVariants as refusals
+use Rattle.tinkey_session.specs.declared.reply.LineRefusal.{LineRefusal}
 use Rattle.tinkey_session.specs.declared.reply.LineRefusal.TheVariants.{BadLine, OpenFailed, Refused}
 use Rattle.tinkey_session.specs.declared.reply.Reply.{Reply}
 use Rattle.tinkey_session.specs.declared.reply.Reply.TheVariants.{Done, Gives, NewId, Refuses}
@@ -144,6 +145,23 @@ abbrev pub asked_line : Keys → List ℕ → EditOf (List ℕ) → Option Serve
 asked_line keys random asked =
     or_refused (refused_line keys random) (edit_named asked) (edit_line keys random)
 
+-- ---- saves
+
+-- the reply to a save: a refusal, or none
+abbrev pub saved_reply : Option LineRefusal → Reply
+saved_reply None = Done
+saved_reply (Some why) = Refuses why
+
+-- the random bytes that it draws, an IV at most
+abbrev pub drawn_size : Outcome → ℕ
+drawn_size outcome = if nat_le outcome.size 16 then outcome.size else 16
+
+-- A save leaves the keyset, and the random bytes behind those that it draws. None where there are fewer.
+abbrev pub saved_line : Keys → (random : List ℕ) → Outcome → Option Served
+saved_line keys random outcome =
+    if nat_lt (length random) (drawn_size outcome) then None
+    else Some (answered keys (drop (drawn_size outcome) random) (saved_reply outcome.why))
+
 -- ---- every line
 
 -- A line over a keyset, with these random bytes to draw from. None where they run out, and where
@@ -170,4 +188,5 @@ serve table keys (Verify tag body) random = by_handle Mac table keys random
 serve table keys (Derive size input) random = by_handle Prf table keys random
     (computed keys random (derived_reply size) (derive_answer keys table input size))
 serve table keys (AsksEdit edit) random = asked_line keys random edit
+serve table keys (Save name outcome) random = saved_line keys random outcome
 serve table keys Bad random = Some (answered keys random (Refuses BadLine))

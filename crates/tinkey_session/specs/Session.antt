@@ -2,12 +2,14 @@
 --
 --   lines_of     the lines of an input
 --   turns        the turn of each line
+--   lines_by     the lines as they are resolved
 --   remains      what the last line leaves
-use Rattle.std.specs.Prelude.{ℕ, List, [], ◌∷◌, ◌==◌, map, Option, Some, None, option_and_then, if◌then◌else◌}
+use Rattle.std.specs.Prelude.{ℕ, List, [], ◌∷◌, ◌++◌, ◌==◌, map, Option, Some, None, option_and_then, if◌then◌else◌}
 use Rattle.std.specs.List.{onto_first}
 use Rattle.keyset_model.specs.Keyset.{Keys}
 use Rattle.managers.specs.Table.{Table}
 use Rattle.tinkey_session.specs.Lines.{Line, line_of}
+use Rattle.tinkey_session.specs.Saving.{FileAsked, Resolves, files_of}
 use Rattle.tinkey_session.specs.Serving.{Served, serve}
 use Rattle.tinkey_session.specs.declared.reply.Reply.{Reply}
 
@@ -48,3 +50,19 @@ unfoldable pub remains : Table → Keys → List Line → (random : List ℕ) �
 remains table keys [] random = Some (record { keys = keys; left = random })
 remains table keys (line ∷ later) random =
     option_and_then (λ s. remains table s.keys later s.left) (serve table keys line random)
+
+-- ---- lines that are resolved
+
+-- the lines after one, resolved over what it left; where it has no answer, as they are
+abbrev pub lines_then : (later : List Line) → Option Served → (Served → List Line) → List Line
+lines_then later None over = later
+lines_then later (Some s) over = over s
+
+-- the lines as they are resolved, after the files asked for before
+unfoldable pub lines_by : Table → Resolves → (before : List FileAsked) → Keys → List Line → (random : List ℕ)
+    → List Line
+lines_by table resolve before keys [] random = []
+lines_by table resolve before keys (line ∷ later) random =
+    resolve before keys random line
+    ∷ lines_then later (serve table keys (resolve before keys random line) random)
+    (λ s. lines_by table resolve (before ++ files_of (resolve before keys random line)) s.keys later s.left)

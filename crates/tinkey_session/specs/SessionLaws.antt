@@ -2,7 +2,7 @@
 -- together.
 --
 --   HasTurns    two turns of one session
-use Rattle.std.specs.Prelude.{◌≡◌, ℕ, ◌<◌, List, ◌∷◌, ◌++◌, true, Some, None, slice_get, not, ◌==◌}
+use Rattle.std.specs.Prelude.{◌≡◌, ℕ, ◌<◌, List, ◌∷◌, ◌++◌, true, Some, slice_get, not, ◌==◌}
 use Rattle.std.specs.List.{list_all}
 use Rattle.keyset_model.specs.Keyset.{Keys, primary_of}
 use Rattle.keyset_model.specs.declared.record.Record.{Record}

@@ -1,14 +1,18 @@
 -- A session over its input as the bytes come: each line is answered when its newline is there.
 --
+--   Given        what a line gives, with the file that it asks for, if it does
+--   Replies      what lines give, each after the files that were asked for before
+--   saving       in a session that saves its keyset
 --   Talk         how far a session has come
 --   byte_taken   the session after a byte more
 --   talk         the session over the bytes taken and the random bytes
 --
 -- TalkLaws says what this is in lines: its replies are those of the turns of Session.
-use Rattle.std.specs.Prelude.{ℕ, suc, List, [], ◌∷◌, ◌++◌, length, ◌==◌, nat_le, Bool, true, false, Option, Some, None, if◌then◌else◌}
+use Rattle.std.specs.Prelude.{◌≡◌, ℕ, suc, List, [], ◌∷◌, ◌++◌, length, ◌==◌, nat_le, Bool, true, false, Option, Some, None, option_map, if◌then◌else◌}
 use Rattle.keyset_model.specs.Keyset.{Keys}
 use Rattle.managers.specs.Table.{Table}
-use Rattle.tinkey_session.specs.Lines.{line_of}
+use Rattle.tinkey_session.specs.Lines.{Line, line_of}
+use Rattle.tinkey_session.specs.Saving.{FileAsked, Form, Resolves, StoreAnswers, as_read, files_of, resolved}
 use Rattle.tinkey_session.specs.Serving.{Served, serve}
 use Rattle.tinkey_session.specs.Texts.{reply_text}
 
@@ -31,37 +35,79 @@ pub data Stop : Type 0 where
   wants : Stop
   passes : Limit → Stop
 
--- the keyset, the line so far, the count of lines before it, the replies to them, and the random
--- bytes that are left
+-- the keyset, the line so far, the count of lines before it, the replies to them, the files that they asked for, and
+-- the random bytes that are left
 pub record Talk : Type 0 where
   pub keys : Keys
   pub line : List ℕ
   pub count : ℕ
   pub output : List ℕ
+  pub asked : List FileAsked
   pub random : List ℕ
   pub stop : Stop
 
+-- what a line gives, and the file that it asks for, if it does
+pub record Given : Type 0 where
+  pub served : Served
+  pub asked : List FileAsked
+
+-- what lines give, after the files asked for before, over a keyset, of these random bytes
+abbrev pub Replies : Type 0
+Replies = (before : List FileAsked) → Keys → (line random : List ℕ) → Option Given
+
+-- more random bytes after those that are left
+abbrev pub given_more : List ℕ → Given → Given
+given_more more g = record g { served = record g.served { left = g.served.left ++ more } }
+
+-- It is settled by the random bytes that the line draws: more of them after these change nothing.
+abbrev pub AreSettled : Replies → Type 0
+AreSettled give = (before : List FileAsked) (keys : Keys) (line random more : List ℕ) (g : Given)
+    → give before keys line random ≡ Some g
+    → give before keys line (random ++ more) ≡ Some (given_more more g)
+
+-- what was answered to a line, with the file that it asks for
+abbrev pub with_files : Line → Served → Given
+with_files line s = record { served = s; asked = files_of line }
+
+-- what a line gives, under a table of managers
+abbrev pub gives : Table → Keys → Line → (random : List ℕ) → Option Given
+gives table keys line random = option_map (with_files line) (serve table keys line random)
+
+-- what lines give, each as it is resolved
+abbrev pub answers_by : Table → Resolves → Replies
+answers_by table resolve before keys line random =
+    gives table keys (resolve before keys random (line_of line)) random
+
+-- in a session that saves nothing
+abbrev pub by_lines : Table → Replies
+by_lines table = answers_by table as_read
+
+-- in a session that saves the keyset in this form, in a store that answers so
+abbrev pub saving : Table → Form → StoreAnswers → Replies
+saving table form answers = answers_by table (resolved form answers)
+
 -- A line is answered. Where it wants more random bytes, it has used up those there are.
-abbrev pub replied : Talk → Option Served → Talk
+abbrev pub replied : Talk → Option Given → Talk
 replied x None = record x { random = []; stop = wants }
-replied x (Some s) = record {
-  keys = s.keys;
+replied x (Some g) = record {
+  keys = g.served.keys;
   line = [];
   count = suc x.count;
-  output = x.output ++ reply_text s.reply;
-  random = s.left;
+  output = x.output ++ reply_text g.served.reply;
+  asked = x.asked ++ g.asked;
+  random = g.served.left;
   stop = goes;
 }
 
 -- the line so far is a line
-abbrev pub line_ended : Table → Talk → Talk
-line_ended table x = replied x (serve table x.keys (line_of x.line) x.random)
+abbrev pub line_ended : Replies → Talk → Talk
+line_ended give x = replied x (give x.asked x.keys x.line x.random)
 
 -- a byte is taken
-abbrev pub byte_taken : Table → Talk → ℕ → Talk
-byte_taken table x b =
+abbrev pub byte_taken : Replies → Talk → ℕ → Talk
+byte_taken give x b =
     if nat_le count_limit x.count then record x { stop = passes many_lines }
-    else (if b == 10 then line_ended table x
+    else (if b == 10 then line_ended give x
     else (if nat_le line_limit (length x.line) then record x { stop = passes long_line }
     else record x { line = x.line ++ b ∷ [] }))
 
@@ -72,27 +118,29 @@ on_go wants x next = x
 on_go (passes limit) x next = x
 
 -- bytes are taken
-unfoldable pub over : Table → Talk → List ℕ → Talk
-over table x [] = x
-over table x (b ∷ bytes) = over table (on_go x.stop x (byte_taken table x b)) bytes
+unfoldable pub over : Replies → Talk → List ℕ → Talk
+over give x [] = x
+over give x (b ∷ bytes) = over give (on_go x.stop x (byte_taken give x b)) bytes
 
 -- at the end of the input a last line counts where it isn't empty
-abbrev pub last_line : Table → List ℕ → Talk → Talk
-last_line table [] x = x
-last_line table (b ∷ bytes) x = line_ended table x
+abbrev pub last_line : Replies → List ℕ → Talk → Talk
+last_line give [] x = x
+last_line give (b ∷ bytes) x = line_ended give x
 
 -- the session at the end of its input: a last line without newline counts
-abbrev pub finish : Table → (ended : Bool) → Talk → Talk
-finish table false x = x
-finish table true x = on_go x.stop x (last_line table x.line x)
+abbrev pub finish : Replies → (ended : Bool) → Talk → Talk
+finish give false x = x
+finish give true x = on_go x.stop x (last_line give x.line x)
 
 -- a session that goes on
-abbrev pub going : Keys → (line : List ℕ) → (count : ℕ) → (output random : List ℕ) → Talk
-going keys line count output random = record {
+abbrev pub going : Keys → (line : List ℕ) → (count : ℕ) → (output : List ℕ) → (asked : List FileAsked) → (random : List ℕ)
+    → Talk
+going keys line count output asked random = record {
   keys = keys;
   line = line;
   count = count;
   output = output;
+  asked = asked;
   random = random;
   stop = goes;
 }
@@ -101,6 +149,10 @@ going keys line count output random = record {
 abbrev pub Exchange : Type 0
 Exchange = (taken random : List ℕ) → (ended : Bool) → Talk
 
+-- the session over a keyset whose lines give this
+abbrev pub talk_by : Replies → Keys → Exchange
+talk_by give keys taken random ended = finish give ended (over give (going keys [] 0 [] [] random) taken)
+
 -- the session over a keyset, under a table of managers
 abbrev pub talk : Table → Keys → Exchange
-talk table keys taken random ended = finish table ended (over table (going keys [] 0 [] random) taken)
+talk table keys = talk_by (by_lines table) keys

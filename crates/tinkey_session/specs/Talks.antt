@@ -1,7 +1,14 @@
 -- How a session over the outside objects may end, whatever fails.
+--
+--   Talks       over a source, a sink and an entropy
+--   HasAsked    the files that it asked for
+--   TalksWith   over a store, too
+--   IsSteady    what is settled stays so
 use Rattle.std.specs.Prelude.{◌≡◌, ◌≢◌, ℕ, List, [], ◌++◌, Bool, true, false, Result, Ok, Err}
 use Rattle.keyset_model.specs.Keyset.{Keys}
 use Rattle.tink_spec.specs.Outside.{SourceState, SinkState, EntropyState, Rose, Stood, Gave, Took, TookPrefix, Drew, DrewLosing, IsAtEnd}
+use Rattle.tink_spec.specs.Files.{StoreState}
+use Rattle.tinkey_session.specs.Saving.{Agrees, FileAsked, Asks, StoreAnswers}
 use Rattle.tinkey_session.specs.Talking.{Exchange, Limit, long_line, many_lines, Stop, goes, wants, passes}
 use Rattle.tinkey_session.specs.declared.talk.TalkFault.{TalkFault}
 use Rattle.tinkey_session.specs.declared.talk.TalkFault.TheVariants as faults
@@ -73,6 +80,32 @@ pub data Talks (talk : Exchange) (result : Result Keys TalkFault) (old new : Sid
       → Took old.sink new.sink (talk taken drawn false).output
       → (talk taken drawn false).stop ≡ goes → NoneRose old new
       → Talks talk result old new
+
+-- These are the files that the lines taken asked for. If a write failed, the last lines taken may not have been answered,
+-- and then they asked for none.
+abbrev pub HasAsked : (talk : Exchange) (result : Result Keys TalkFault) (old new : Sides) → List FileAsked
+    → Talks talk result old new → Type 0
+HasAsked talk result old new asked (talked taken drawn is has none) =
+    (talk taken drawn true).asked ≡ asked
+HasAsked talk result old new asked (passed taken drawn limit is has none) =
+    (talk taken drawn false).asked ≡ asked
+HasAsked talk result old new asked (unread taken drawn is has rose sink entropy) =
+    (talk taken drawn false).asked ≡ asked
+HasAsked talk result old new asked (undrawn taken drawn ended is has rose source sink) =
+    (talk taken drawn ended).asked ≡ asked
+HasAsked talk result old new asked (unwritten taken drawn ended is gave drew took end rose source entropy) =
+    (later : List FileAsked) × ((talk taken drawn ended).asked ≡ asked ++ later)
+HasAsked talk result old new asked (starved taken more drawn part is gave drew took stop none) =
+    (talk taken drawn false).asked ≡ asked
+
+-- A session over these objects and a store came to this result, where what a session is depends on what its store
+-- answers. These files were asked for, one after another, and under any store that answers so, it is that session.
+pub record TalksWith (talk : StoreAnswers → Exchange) (result : Result Keys TalkFault) (old new : Sides)
+    (before after : StoreState) : Type 0 where
+  pub asked : List FileAsked
+  pub asks : Asks asked before after
+  pub talks : (answers : StoreAnswers) → Agrees answers [] asked → (so : Talks (talk answers) result old new)
+      × HasAsked (talk answers) result old new asked so
 
 -- What is settled stays so. Behind random bytes that suffice, more of them change nothing; and past
 -- a limit, nothing that follows matters.

@@ -13,7 +13,7 @@ ghost use Rattle.tinkey_cmds.specs.Laws.{EditsFollow, EditsLeaveOthers};
 ghost use Rattle.tinkey_session.specs.SessionLaws.{LinesGoOn, SessionGoesOn, SessionIsEdits, SessionVerifies};
 ghost use Rattle.tinkey_session.specs.SessionLaws.{SessionDopens, SessionDopensPresent, SessionOpens, SessionOpensPresent};
 ghost use Rattle.tinkey_session.specs.SessionLaws.{TurnIsEdits, TurnsAreLines, TurnsAreSpelled};
-ghost use Rattle.tinkey_session.specs.TalkLaws.{TalkIsTurns, TalksAreSteady};
+ghost use Rattle.tinkey_session.specs.TalkLaws.{NothingIsSaved, SavesAreBefore, SavesAreSteady, SavesAreTold, SavesAreTurns, TalkIsTurns, TalksAreSteady};
 
 use key_msgs::laws::made_is_valid;
 use tinkey_cmds::laws::{edits_follow, edits_leave_others};
@@ -264,8 +264,35 @@ pub fn talks_are_steady()
     ensures { TalksAreSteady }
 {}
 
+/// So do they settle a session that saves its keyset, whatever the store answers.
+pub fn saves_are_steady()
+    ensures { SavesAreSteady }
+{}
+
 /// The replies of a session over bytes are the replies of its lines' turns. Each line has a turn,
 /// unless the random bytes run out or a limit is passed.
 pub fn talk_is_turns()
     ensures { TalkIsTurns }
+{}
+
+/// The same of a session that saves its keyset: each line that saves it is answered as the form and
+/// the store have it, and the files asked for are those of the answered lines.
+pub fn saves_are_turns()
+    ensures { SavesAreTurns }
+{}
+
+/// A session with `NoWriter` is the session that saves nothing, and leaves its store as it was.
+pub fn nothing_is_saved()
+    ensures { NothingIsSaved }
+{}
+
+/// Over a store that reports its files, and doesn't fail in it, a session that saves is determined by
+/// these files, the input and the random bytes; then the store has the files that were made, too.
+pub fn saves_are_told()
+    ensures { SavesAreTold }
+{}
+
+/// The file that a line asks for is the keyset before it, written.
+pub fn saves_are_before()
+    ensures { SavesAreBefore }
 {}

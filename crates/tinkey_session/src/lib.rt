@@ -5,6 +5,7 @@ mod answering;
 pub mod laws;
 mod line;
 mod reply;
+mod saving;
 mod session;
 mod short_text;
 pub mod talk;
@@ -13,6 +14,7 @@ pub use line::{Line, read_line};
 pub use reply::{
     LineRefusal, Refusal, Reply, line_refusal_text, refusal_in, refusal_text, reply_text,
 };
+pub use saving::{NoWriter, WriteError, Writer};
 pub use session::{LineFault, Session, find_edit, find_template};
 pub use short_text::ShortText;
 pub use talk::TalkFault;

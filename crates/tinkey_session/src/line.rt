@@ -1,7 +1,7 @@
 //! One line of a session, read by the grammar of `specs/Lines.antt`.
 
 ghost use Rattle.std.specs.Prelude.{◌≡◌, length, IfOk, option_map};
-ghost use Rattle.tinkey_session.specs.Lines.{bytes_in, line_of, line_of_words, line_with_bytes, line_with_id, line_with_one, line_with_two, name_in, words_of};
+ghost use Rattle.tinkey_session.specs.Lines.{bytes_in, file_in, line_of, line_of_words, line_with_bytes, line_with_id, line_with_one, line_with_two, name_in, words_of};
 ghost use Rattle.tinkey_session.specs.Reading.{IsWithin, seen_line, seen_name};
 
 use hex::FromHexError;
@@ -10,6 +10,7 @@ use std::alloc::Global;
 use std::str::from_utf8;
 use tink_base::{Bytes, NoMemory, number_in};
 use tinkey_cmds::KeysetEdit;
+use tinkey_words::{ValueForm, is_value};
 
 /// What a line asks for.
 #[derive(Drop)]
@@ -34,6 +35,8 @@ pub enum Line<'a> {
     Derive(u32, Bytes),
     /// Edit the keyset, by the name of a template, known or not, or by a key id.
     Edit(KeysetEdit<&'a str>),
+    /// Save the keyset under this name, which is one that a new file may have.
+    Save(&'a str),
     /// Not a line of the grammar.
     Bad,
 }
@@ -82,6 +85,10 @@ fn line_with_one<'a>(alloc: Global, name: &str, word: &'a str) -> Result<Line<'a
         },
         "rotate" => match name_in(word) {
             Some(template) => Line::Edit(KeysetEdit::Rotate(template)),
+            None => Line::Bad,
+        },
+        "save" => match file_in(word) {
+            Some(name) => Line::Save(name),
             None => Line::Bad,
         },
         _ => match number_in(word) {
@@ -156,6 +163,17 @@ fn bytes_in(alloc: Global, word: &str) -> Result<Option<Bytes>, NoMemory>
         Ok(bytes) => Ok(Some(Bytes::own(bytes))),
         Err(FromHexError::OutOfMemory) => Err(NoMemory),
         Err(_) => Ok(None),
+    }
+}
+
+/// The name of a new file, as `--out` of a session takes it.
+fn file_in(word: &str) -> Option<&str>
+    ensures { seen_name result ≡ file_in word.now }
+{
+    if is_value(ValueForm::NewFile, word) {
+        Some(word)
+    } else {
+        None
     }
 }
 

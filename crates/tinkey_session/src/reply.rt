@@ -43,6 +43,12 @@ pub enum LineRefusal {
     BadLine,
     /// No key opens the bytes. A command reports more about them, so it has a status of its own.
     OpenFailed,
+    /// The name of a file to save under is taken.
+    OutputExists,
+    /// The keyset is too long to be saved.
+    KeysetTooLong,
+    /// The store failed.
+    StoreFault,
     /// It is refused as a command is.
     Refused(Refusal),
 }
@@ -90,6 +96,9 @@ pub fn line_refusal_text(refusal: LineRefusal) -> ShortText
     match refusal {
         LineRefusal::BadLine => plain_text("bad line"),
         LineRefusal::OpenFailed => plain_text("open failed"),
+        LineRefusal::OutputExists => plain_text("output file exists"),
+        LineRefusal::KeysetTooLong => plain_text("keyset too long"),
+        LineRefusal::StoreFault => plain_text("store fault"),
         LineRefusal::Refused(why) => refusal_text(why),
     }
 }

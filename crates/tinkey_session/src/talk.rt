@@ -4,21 +4,20 @@ ghost use Rattle.std.specs.Prelude.{◌≡◌, ◌<◌, ◌≤◌, ◌+◌, ℕ,
 ghost use Rattle.std.specs.List.{AllByRecursion};
 ghost use Rattle.tink_spec.specs.Outside.{Rose, Stood, StopsAtEnd, Took, TookPrefix};
 ghost use Rattle.keyset_model.specs.Keyset.{IsShort};
-ghost use Rattle.tinkey_session.specs.Feeding.{Ended, Fed, Finished, HoldsBack, InLine, InPiece, IsInLine, IsReplied, IsUnreplied, Stopped, outside, point, progress};
+ghost use Rattle.tinkey_session.specs.Feeding.{Ended, Fed, Finished, HoldsBack, InLine, InPiece, IsInLine, IsReplied, IsUnreplied, Stopped, ending, outside, point, progress, taking};
 ghost use Rattle.tinkey_session.specs.Keeping.{IsKept};
-ghost use Rattle.tinkey_session.specs.Lines.{line_of};
-ghost use Rattle.tinkey_session.specs.Serving.{serve};
-ghost use Rattle.tinkey_session.specs.Talking.{count_limit, finish as finished, going, line_ended, line_limit, over, talk as talked};
-ghost use Rattle.tinkey_session.specs.Talks.{Talks, sides};
+ghost use Rattle.tinkey_session.specs.Talking.{count_limit, going, line_ended, line_limit, saving, talk_by};
+ghost use Rattle.tinkey_session.specs.Talks.{TalksWith, sides};
 
 use crate::line::read_line;
 use crate::reply::reply_text;
+use crate::saving::{Writer, name_saved, save};
 use crate::session::{LineFault, Session};
 use keyset_model::Keyset;
 use managers::{KeyTable, Managers};
 use memchr::memchr;
 use std::alloc::Global;
-use tink_base::{Drawn, Entropy, Failed, Lookahead, Sink, Source, write_all};
+use tink_base::{Drawn, Entropy, Failed, Lookahead, Sink, Source, Store, write_all};
 
 /// Why a session ends before its input.
 #[derive(Clone, Copy, Debug, PartialEq, Eq)]
@@ -62,6 +61,10 @@ struct TalkState<'m> {
 /// Answers each line of an input over a keyset, under these managers, and returns the keyset that
 /// the last line left. A record's URL and value together have at most 2^31 - 256 bytes.
 ///
+/// A line may save the keyset as it is then: the writer, which must be ready, writes it, and the
+/// store makes a new file of it, before the reply is given. If the name is taken or the store
+/// fails, the reply says so, and the session goes on; with a `NoWriter` it is a bad line.
+///
 /// A line ends with a newline; a last one without it counts if it isn't empty. Before each read the
 /// replies to all complete lines are written. The session ends early if a byte is past a limit:
 /// `LineTooLong` at the first byte too many of a line, `TooManyLines` at a byte after the last line
@@ -70,23 +73,29 @@ struct TalkState<'m> {
 /// with the lines' changes to it. Nothing is read after the end was reported.
 ///
 /// Replies may be held back until the next read or the session's end, and are then written
-/// together. Random bytes that the entropy doesn't hold are drawn only if no reply is held back.
+/// together. Random bytes that the entropy doesn't hold are drawn only if no reply is held back. A
+/// file that was made stays after any fault.
 ///
 /// Memory is taken for one line, one reply, up to 32,768 bytes of earlier replies followed by a
 /// copy of that reply, the keyset, and the keys that lines need of it. If memory to hold replies
 /// back can't be allocated, they are written at once.
-pub fn talk<S: Source, K: Sink, E: Lookahead>(
+pub fn talk<S: Source, K: Sink, E: Lookahead, W: Writer, D: Store>(
     alloc: Global,
     keyset: Keyset,
     managers: &Managers,
+    writer: &W,
     source: &mut S,
     sink: &mut K,
     entropy: &mut E,
+    store: &mut D,
 ) -> Result<Keyset, TalkFault>
+    requires ready { W.ready writer.now }
     requires short { AllByRecursion IsShort keyset.records }
-    ensures talks { Talks (talked (⟦<Managers as KeyTable>⟧.table managers.now) keyset) result
+    ensures talks { TalksWith (λ answers. talk_by
+        (saving (⟦<Managers as KeyTable>⟧.table managers.now) (W.form writer.now) answers) keyset) result
         (sides (S.state source.old) (K.state sink.old) (E.state entropy.old))
-        (sides (S.state source.new) (K.state sink.new) (E.state entropy.new)) }
+        (sides (S.state source.new) (K.state sink.new) (E.state entropy.new))
+        (D.state store.old) (D.state store.new) }
     ensures short { IfOk result (λ last. AllByRecursion IsShort last.records) }
     ensures stops { StopsAtEnd (S.state source.old) (S.state source.new) }
 {
@@ -103,9 +112,9 @@ pub fn talk<S: Source, K: Sink, E: Lookahead>(
             Err(Failed) => return Err(TalkFault::ReadFault),
         };
         if n == 0 {
-            return finish(alloc, talk, sink, entropy);
+            return finish(alloc, talk, writer, sink, entropy, store);
         }
-        match take_piece(alloc, &mut talk, &buffer[..n], sink, entropy) {
+        match take_piece(alloc, &mut talk, writer, &buffer[..n], sink, entropy, store) {
             Ok(()) => {}
             Err(fault) => return Err(fault),
         }
@@ -113,13 +122,16 @@ pub fn talk<S: Source, K: Sink, E: Lookahead>(
 }
 
 /// Takes a piece of the input, and answers each line that ends in it. Then no reply is held back.
-fn take_piece<K: Sink, E: Lookahead>(
+fn take_piece<K: Sink, E: Lookahead, W: Writer, D: Store>(
     alloc: Global,
     talk: &mut TalkState<'_>,
+    writer: &W,
     piece: &[u8],
     sink: &mut K,
     entropy: &mut E,
+    store: &mut D,
 ) -> Result<(), TalkFault>
+    requires ready { W.ready writer.now }
     requires kept { IfSome talk.old.session.kept (λ h. IsKept
         (⟦<Managers as KeyTable>⟧.table talk.old.session.managers.now)
         (⟦<Managers as KeyTable>⟧.table h.managers.now) h.primitive talk.old.session.keyset h.held) }
@@ -132,22 +144,23 @@ fn take_piece<K: Sink, E: Lookahead>(
         ≡ ⟦<Managers as KeyTable>⟧.table talk.old.session.managers.now) }
     ensures none { OnOk result (talk.new.replies.items ≡ []) }
     ensures less { OnOk result (progress talk.old.count talk.old.line.items + length piece.now ≤ progress talk.new.count talk.new.line.items) }
-    ensures fed { OnOk result ((output : List ℕ) → Fed
+    ensures fed { OnOk result (Fed
+        (saving (⟦<Managers as KeyTable>⟧.table talk.old.session.managers.now) (W.form writer.now))
         (going talk.old.session.keyset talk.old.line.items talk.old.count)
-        (point talk.new.session.keyset talk.new.line.items talk.new.count)
-        (λ x. over (⟦<Managers as KeyTable>⟧.table talk.old.session.managers.now) x piece.now)
-        output (outside (K.state sink.old) talk.old.replies.items (E.state entropy.old))
-        (outside (K.state sink.new) talk.new.replies.items (E.state entropy.new))) }
-    ensures stopped { IfErr result (λ fault. (output : List ℕ) → Stopped (going talk.old.session.keyset talk.old.line.items talk.old.count)
-        (λ x. over (⟦<Managers as KeyTable>⟧.table talk.old.session.managers.now) x piece.now)
-        (InPiece (⟦<Managers as KeyTable>⟧.table talk.old.session.managers.now)
-        (going talk.old.session.keyset talk.old.line.items talk.old.count) piece.now output) output fault
-        (outside (K.state sink.old) talk.old.replies.items (E.state entropy.old))
-        (outside (K.state sink.new) [] (E.state entropy.new))) }
+        (point talk.new.session.keyset talk.new.line.items talk.new.count) (taking piece.now)
+        (outside (K.state sink.old) talk.old.replies.items (E.state entropy.old) (D.state store.old))
+        (outside (K.state sink.new) talk.new.replies.items (E.state entropy.new) (D.state store.new))) }
+    ensures stopped { IfErr result (λ fault. Stopped
+        (saving (⟦<Managers as KeyTable>⟧.table talk.old.session.managers.now) (W.form writer.now))
+        (going talk.old.session.keyset talk.old.line.items talk.old.count) (taking piece.now)
+        (InPiece (saving (⟦<Managers as KeyTable>⟧.table talk.old.session.managers.now) (W.form writer.now))
+        (going talk.old.session.keyset talk.old.line.items talk.old.count) piece.now) fault
+        (outside (K.state sink.old) talk.old.replies.items (E.state entropy.old) (D.state store.old))
+        (outside (K.state sink.new) [] (E.state entropy.new) (D.state store.new))) }
 {
     let mut i = 0;
     while i < piece.len() {
-        match take_part(alloc, talk, &piece[i..], sink, entropy) {
+        match take_part(alloc, talk, writer, &piece[i..], sink, entropy, store) {
             Ok(taken) => i += taken,
             Err(fault) => return Err(fault),
         }
@@ -160,13 +173,16 @@ fn take_piece<K: Sink, E: Lookahead>(
 
 /// Takes the first of these bytes, and returns how many: those before the first newline, or that
 /// newline if it comes first.
-fn take_part<K: Sink, E: Lookahead>(
+fn take_part<K: Sink, E: Lookahead, W: Writer, D: Store>(
     alloc: Global,
     talk: &mut TalkState<'_>,
+    writer: &W,
     bytes: &[u8],
     sink: &mut K,
     entropy: &mut E,
+    store: &mut D,
 ) -> Result<usize, TalkFault>
+    requires ready { W.ready writer.now }
     requires kept { IfSome talk.old.session.kept (λ h. IsKept
         (⟦<Managers as KeyTable>⟧.table talk.old.session.managers.now)
         (⟦<Managers as KeyTable>⟧.table h.managers.now) h.primitive talk.old.session.keyset h.held) }
@@ -181,25 +197,27 @@ fn take_part<K: Sink, E: Lookahead>(
     ensures some { IfOk result (λ taken. 0 < taken) }
     ensures within { IfOk result (λ taken. taken ≤ length bytes.now) }
     ensures less { IfOk result (λ taken. progress talk.old.count talk.old.line.items + taken ≤ progress talk.new.count talk.new.line.items) }
-    ensures fed { IfOk result (λ taken. (output : List ℕ) → Fed
+    ensures fed { IfOk result (λ taken. Fed
+        (saving (⟦<Managers as KeyTable>⟧.table talk.old.session.managers.now) (W.form writer.now))
         (going talk.old.session.keyset talk.old.line.items talk.old.count)
         (point talk.new.session.keyset talk.new.line.items talk.new.count)
-        (λ x. over (⟦<Managers as KeyTable>⟧.table talk.old.session.managers.now) x (take taken bytes.now))
-        output (outside (K.state sink.old) talk.old.replies.items (E.state entropy.old))
-        (outside (K.state sink.new) talk.new.replies.items (E.state entropy.new))) }
-    ensures stopped { IfErr result (λ fault. (output : List ℕ) → Stopped (going talk.old.session.keyset talk.old.line.items talk.old.count)
-        (λ x. over (⟦<Managers as KeyTable>⟧.table talk.old.session.managers.now) x bytes.now)
-        (InPiece (⟦<Managers as KeyTable>⟧.table talk.old.session.managers.now)
-        (going talk.old.session.keyset talk.old.line.items talk.old.count) bytes.now output) output fault
-        (outside (K.state sink.old) talk.old.replies.items (E.state entropy.old))
-        (outside (K.state sink.new) [] (E.state entropy.new))) }
+        (taking (take taken bytes.now))
+        (outside (K.state sink.old) talk.old.replies.items (E.state entropy.old) (D.state store.old))
+        (outside (K.state sink.new) talk.new.replies.items (E.state entropy.new) (D.state store.new))) }
+    ensures stopped { IfErr result (λ fault. Stopped
+        (saving (⟦<Managers as KeyTable>⟧.table talk.old.session.managers.now) (W.form writer.now))
+        (going talk.old.session.keyset talk.old.line.items talk.old.count) (taking bytes.now)
+        (InPiece (saving (⟦<Managers as KeyTable>⟧.table talk.old.session.managers.now) (W.form writer.now))
+        (going talk.old.session.keyset talk.old.line.items talk.old.count) bytes.now) fault
+        (outside (K.state sink.old) talk.old.replies.items (E.state entropy.old) (D.state store.old))
+        (outside (K.state sink.new) [] (E.state entropy.new) (D.state store.new))) }
 {
     if talk.count >= COUNT_LIMIT {
         return Err(end(TalkFault::TooManyLines, &mut talk.replies, sink));
     }
     let front = before_newline(bytes);
     if front == 0 {
-        match take_line(alloc, talk, sink, entropy) {
+        match take_line(alloc, talk, writer, sink, entropy, store) {
             Ok(()) => return Ok(1),
             Err(fault) => return Err(fault),
         }
@@ -223,12 +241,15 @@ fn before_newline(bytes: &[u8]) -> usize
 }
 
 /// Answers the line so far, which is complete, and begins the next one.
-fn take_line<K: Sink, E: Lookahead>(
+fn take_line<K: Sink, E: Lookahead, W: Writer, D: Store>(
     alloc: Global,
     talk: &mut TalkState<'_>,
+    writer: &W,
     sink: &mut K,
     entropy: &mut E,
+    store: &mut D,
 ) -> Result<(), TalkFault>
+    requires ready { W.ready writer.now }
     requires kept { IfSome talk.old.session.kept (λ h. IsKept
         (⟦<Managers as KeyTable>⟧.table talk.old.session.managers.now)
         (⟦<Managers as KeyTable>⟧.table h.managers.now) h.primitive talk.old.session.keyset h.held) }
@@ -240,24 +261,27 @@ fn take_line<K: Sink, E: Lookahead>(
         ≡ ⟦<Managers as KeyTable>⟧.table talk.old.session.managers.now) }
     ensures count { OnOk result (talk.new.count ≡ talk.old.count + 1) }
     ensures line { OnOk result (talk.new.line.items ≡ []) }
-    ensures fed { OnOk result ((output : List ℕ) → Fed
+    ensures fed { OnOk result (Fed
+        (saving (⟦<Managers as KeyTable>⟧.table talk.old.session.managers.now) (W.form writer.now))
         (going talk.old.session.keyset talk.old.line.items talk.old.count)
-        (point talk.new.session.keyset talk.new.line.items talk.new.count)
-        (line_ended (⟦<Managers as KeyTable>⟧.table talk.old.session.managers.now))
-        output (outside (K.state sink.old) talk.old.replies.items (E.state entropy.old))
-        (outside (K.state sink.new) talk.new.replies.items (E.state entropy.new))) }
-    ensures stopped { IfErr result (λ fault. (output : List ℕ) → Stopped (going talk.old.session.keyset talk.old.line.items talk.old.count)
-        (line_ended (⟦<Managers as KeyTable>⟧.table talk.old.session.managers.now)) InLine output
-        fault (outside (K.state sink.old) talk.old.replies.items (E.state entropy.old))
-        (outside (K.state sink.new) [] (E.state entropy.new))) }
+        (point talk.new.session.keyset talk.new.line.items talk.new.count) line_ended
+        (outside (K.state sink.old) talk.old.replies.items (E.state entropy.old) (D.state store.old))
+        (outside (K.state sink.new) talk.new.replies.items (E.state entropy.new) (D.state store.new))) }
+    ensures stopped { IfErr result (λ fault. Stopped
+        (saving (⟦<Managers as KeyTable>⟧.table talk.old.session.managers.now) (W.form writer.now))
+        (going talk.old.session.keyset talk.old.line.items talk.old.count) line_ended InLine fault
+        (outside (K.state sink.old) talk.old.replies.items (E.state entropy.old) (D.state store.old))
+        (outside (K.state sink.new) [] (E.state entropy.new) (D.state store.new))) }
 {
     match reply_to(
         alloc,
         &mut talk.session,
         &talk.line,
+        writer,
         &mut talk.replies,
         sink,
         entropy,
+        store,
     ) {
         Ok(reply) => match tell(&mut talk.replies, sink, &reply) {
             Ok(()) => {
@@ -275,14 +299,17 @@ fn take_line<K: Sink, E: Lookahead>(
 /// no object is called. Otherwise the replies held back are written, and the line is answered
 /// again. If memory can't be allocated, they are written too, and the error is `NoMemory`, or
 /// `WriteFault` if a write fails.
-fn reply_to<K: Sink, E: Lookahead>(
+fn reply_to<K: Sink, E: Lookahead, W: Writer, D: Store>(
     alloc: Global,
     session: &mut Session<'_>,
     line: &[u8],
+    writer: &W,
     replies: &mut Vec<u8>,
     sink: &mut K,
     entropy: &mut E,
+    store: &mut D,
 ) -> Result<Vec<u8>, TalkFault>
+    requires ready { W.ready writer.now }
     requires kept { IfSome session.old.kept (λ h. IsKept
         (⟦<Managers as KeyTable>⟧.table session.old.managers.now)
         (⟦<Managers as KeyTable>⟧.table h.managers.now) h.primitive session.old.keyset h.held) }
@@ -293,19 +320,19 @@ fn reply_to<K: Sink, E: Lookahead>(
     ensures table { OnOk result (⟦<Managers as KeyTable>⟧.table session.new.managers.now
         ≡ ⟦<Managers as KeyTable>⟧.table session.old.managers.now) }
     ensures replied { IfOk result (λ text. IsReplied
-        (serve (⟦<Managers as KeyTable>⟧.table session.old.managers.now) session.old.keyset
-        (line_of line.now)) text.items session.new.keyset
-        (E.state entropy.old) (E.state entropy.new)) }
+        (saving (⟦<Managers as KeyTable>⟧.table session.old.managers.now) (W.form writer.now))
+        session.old.keyset line.now text.items session.new.keyset
+        (E.state entropy.old) (E.state entropy.new) (D.state store.old) (D.state store.new)) }
     ensures told { OnOk result
         (HoldsBack (K.state sink.old) (K.state sink.new) replies.old.items replies.new.items []) }
     ensures no_fault { OnOk result (Stood (K.state sink.old).faults (K.state sink.new).faults) }
-    ensures stopped { IfErr result (λ fault. (count : ℕ) (output : List ℕ) → Stopped
-        (going session.old.keyset line.now count)
-        (line_ended (⟦<Managers as KeyTable>⟧.table session.old.managers.now)) InLine output fault
-        (outside (K.state sink.old) replies.old.items (E.state entropy.old))
-        (outside (K.state sink.new) [] (E.state entropy.new))) }
+    ensures stopped { IfErr result (λ fault. (count : ℕ) → Stopped
+        (saving (⟦<Managers as KeyTable>⟧.table session.old.managers.now) (W.form writer.now))
+        (going session.old.keyset line.now count) line_ended InLine fault
+        (outside (K.state sink.old) replies.old.items (E.state entropy.old) (D.state store.old))
+        (outside (K.state sink.new) [] (E.state entropy.new) (D.state store.new))) }
 {
-    match answer_held(alloc, session, line, entropy) {
+    match answer_held(alloc, session, line, writer, entropy, store) {
         Ok(reply) => return Ok(reply),
         Err(LineFault::EntropyFault) => {}
         Err(LineFault::NoMemory) => return Err(end(TalkFault::NoMemory, replies, sink)),
@@ -314,7 +341,7 @@ fn reply_to<K: Sink, E: Lookahead>(
         Ok(()) => {}
         Err(_) => return Err(TalkFault::WriteFault),
     }
-    match answer_line(alloc, session, line, entropy) {
+    match answer_line(alloc, session, line, writer, entropy, store) {
         Ok(reply) => Ok(reply),
         Err(LineFault::EntropyFault) => Err(TalkFault::EntropyFault),
         Err(LineFault::NoMemory) => Err(TalkFault::NoMemory),
@@ -323,12 +350,15 @@ fn reply_to<K: Sink, E: Lookahead>(
 
 /// The text of the reply to a line, with the random bytes that the entropy holds, which are then
 /// used up. `EntropyFault` means that they don't suffice. With any fault none is used.
-fn answer_held<E: Lookahead>(
+fn answer_held<E: Lookahead, W: Writer, D: Store>(
     alloc: Global,
     session: &mut Session<'_>,
     line: &[u8],
+    writer: &W,
     entropy: &mut E,
+    store: &mut D,
 ) -> Result<Vec<u8>, LineFault>
+    requires ready { W.ready writer.now }
     requires kept { IfSome session.old.kept (λ h. IsKept
         (⟦<Managers as KeyTable>⟧.table session.old.managers.now)
         (⟦<Managers as KeyTable>⟧.table h.managers.now) h.primitive session.old.keyset h.held) }
@@ -339,17 +369,18 @@ fn answer_held<E: Lookahead>(
     ensures table { ⟦<Managers as KeyTable>⟧.table session.new.managers.now
         ≡ ⟦<Managers as KeyTable>⟧.table session.old.managers.now }
     ensures replied { IfOk result (λ text. IsReplied
-        (serve (⟦<Managers as KeyTable>⟧.table session.old.managers.now) session.old.keyset
-        (line_of line.now)) text.items session.new.keyset
-        (E.state entropy.old) (E.state entropy.new)) }
+        (saving (⟦<Managers as KeyTable>⟧.table session.old.managers.now) (W.form writer.now))
+        session.old.keyset line.now text.items session.new.keyset
+        (E.state entropy.old) (E.state entropy.new) (D.state store.old) (D.state store.new)) }
     ensures unchanged { IsErrOf result LineFault.EntropyFault →
         session.new.keyset ≡ session.old.keyset }
     ensures unused { OnErr result (E.state entropy.new ≡ E.state entropy.old) }
+    ensures still { OnErr result (D.state store.new ≡ D.state store.old) }
 {
     let held = entropy.held();
     let before = held.len();
     let mut drawn = Drawn::new(held);
-    match answer_line(alloc, session, line, &mut drawn) {
+    match answer_line(alloc, session, line, writer, &mut drawn, store) {
         Ok(reply) => {
             let used = before - drawn.left();
             entropy.skip(used);
@@ -360,12 +391,15 @@ fn answer_held<E: Lookahead>(
 }
 
 /// The text of the reply to a line, with random bytes of any entropy.
-fn answer_line<E: Entropy>(
+fn answer_line<E: Entropy, W: Writer, D: Store>(
     alloc: Global,
     session: &mut Session<'_>,
     line: &[u8],
+    writer: &W,
     entropy: &mut E,
+    store: &mut D,
 ) -> Result<Vec<u8>, LineFault>
+    requires ready { W.ready writer.now }
     requires kept { IfSome session.old.kept (λ h. IsKept
         (⟦<Managers as KeyTable>⟧.table session.old.managers.now)
         (⟦<Managers as KeyTable>⟧.table h.managers.now) h.primitive session.old.keyset h.held) }
@@ -376,12 +410,13 @@ fn answer_line<E: Entropy>(
     ensures table { ⟦<Managers as KeyTable>⟧.table session.new.managers.now
         ≡ ⟦<Managers as KeyTable>⟧.table session.old.managers.now }
     ensures replied { IfOk result (λ text. IsReplied
-        (serve (⟦<Managers as KeyTable>⟧.table session.old.managers.now) session.old.keyset
-        (line_of line.now)) text.items session.new.keyset
-        (E.state entropy.old) (E.state entropy.new)) }
+        (saving (⟦<Managers as KeyTable>⟧.table session.old.managers.now) (W.form writer.now))
+        session.old.keyset line.now text.items session.new.keyset
+        (E.state entropy.old) (E.state entropy.new) (D.state store.old) (D.state store.new)) }
     ensures unreplied { IfErr result (λ fault. IsUnreplied
-        (serve (⟦<Managers as KeyTable>⟧.table session.old.managers.now) session.old.keyset
-        (line_of line.now)) fault (E.state entropy.old) (E.state entropy.new)) }
+        (saving (⟦<Managers as KeyTable>⟧.table session.old.managers.now) (W.form writer.now))
+        session.old.keyset line.now fault (E.state entropy.old) (E.state entropy.new)) }
+    ensures still { OnErr result (D.state store.new ≡ D.state store.old) }
     ensures unchanged { IsErrOf result LineFault.EntropyFault →
         session.new.keyset ≡ session.old.keyset }
 {
@@ -389,6 +424,9 @@ fn answer_line<E: Entropy>(
         Ok(asked) => asked,
         Err(_) => return Err(LineFault::NoMemory),
     };
+    if let Some(name) = name_saved(&asked) {
+        return save(alloc, &session.keyset, name, writer, entropy, store);
+    }
     let reply = match session.serve(alloc, &asked, entropy) {
         Ok(reply) => reply,
         Err(fault) => return Err(fault),
@@ -465,32 +503,37 @@ fn end<K: Sink>(fault: TalkFault, replies: &mut Vec<u8>, sink: &mut K) -> TalkFa
 }
 
 /// Answers a last line that isn't empty, writes its reply, and returns the keyset.
-fn finish<K: Sink, E: Lookahead>(
+fn finish<K: Sink, E: Lookahead, W: Writer, D: Store>(
     alloc: Global,
     talk: TalkState<'_>,
+    writer: &W,
     sink: &mut K,
     entropy: &mut E,
+    store: &mut D,
 ) -> Result<Keyset, TalkFault>
+    requires ready { W.ready writer.now }
     requires kept { IfSome talk.session.kept (λ h. IsKept
         (⟦<Managers as KeyTable>⟧.table talk.session.managers.now)
         (⟦<Managers as KeyTable>⟧.table h.managers.now) h.primitive talk.session.keyset h.held) }
     requires few { talk.count ≤ count_limit }
     requires none { talk.replies.items ≡ [] }
     ensures short { IfOk result (λ last. AllByRecursion IsShort last.records) }
-    ensures finished { IfOk result (λ last. (output : List ℕ) → Finished
-        (⟦<Managers as KeyTable>⟧.table talk.entry.session.managers.now) (going talk.entry.session.keyset talk.entry.line.items talk.entry.count) last output
-        (outside (K.state sink.old) [] (E.state entropy.old))
-        (outside (K.state sink.new) [] (E.state entropy.new))) }
-    ensures stopped { IfErr result (λ fault. (output : List ℕ) → Stopped (going talk.entry.session.keyset talk.entry.line.items talk.entry.count)
-        (finished (⟦<Managers as KeyTable>⟧.table talk.entry.session.managers.now) true) InLine output
-        fault (outside (K.state sink.old) [] (E.state entropy.old))
-        (outside (K.state sink.new) [] (E.state entropy.new))) }
+    ensures finished { IfOk result (λ last. Finished
+        (saving (⟦<Managers as KeyTable>⟧.table talk.entry.session.managers.now) (W.form writer.now))
+        (going talk.entry.session.keyset talk.entry.line.items talk.entry.count) last
+        (outside (K.state sink.old) [] (E.state entropy.old) (D.state store.old))
+        (outside (K.state sink.new) [] (E.state entropy.new) (D.state store.new))) }
+    ensures stopped { IfErr result (λ fault. Stopped
+        (saving (⟦<Managers as KeyTable>⟧.table talk.entry.session.managers.now) (W.form writer.now))
+        (going talk.entry.session.keyset talk.entry.line.items talk.entry.count) ending InLine fault
+        (outside (K.state sink.old) [] (E.state entropy.old) (D.state store.old))
+        (outside (K.state sink.new) [] (E.state entropy.new) (D.state store.new))) }
 {
     let mut talk = talk;
     if talk.line.is_empty() {
         return Ok(talk.session.keyset);
     }
-    match take_line(alloc, &mut talk, sink, entropy) {
+    match take_line(alloc, &mut talk, writer, sink, entropy, store) {
         Ok(()) => {}
         Err(fault) => return Err(fault),
     }

@@ -10,5 +10,5 @@ mod words;
 pub use words::{
     CommandName, DATUM_LIMIT, Datum, Envelope, Format, KeysetFile, Master, Misfit, Misuse, NewLock,
     OptionName, Output, Range, Request, SealedForm, StreamWork, Topic, ValueForm, Work,
-    command_named, parse,
+    command_named, is_value, parse,
 };

@@ -27,7 +27,7 @@ use options::{Options, erase, relocked};
 pub use range::Range;
 pub use request::{Datum, Envelope, KeysetFile, Output, Request, StreamWork, Work};
 use rows::is_dash;
-pub use rows::{DATUM_LIMIT, Format, SealedForm, ValueForm, command_named};
+pub use rows::{DATUM_LIMIT, Format, SealedForm, ValueForm, command_named, is_value};
 use tinkey_cmds::KeysetEdit as Edit;
 
 /// The command that the words ask for, or the first word at fault, as in `Status::Usage`.

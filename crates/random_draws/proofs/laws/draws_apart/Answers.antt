@@ -4,8 +4,8 @@ use Rattle.random_draws.proofs.laws.draws_apart.Goals as goal
 
 pub returns : goal.returns
 returns c = record {
-  run = runs_draw c.slices_are_settled.ensures c.talk_is_turns.ensures;
-  runs = runs_draw_in_order c.slices_are_settled.ensures c.talk_is_turns.ensures;
+  run = runs_draw c.slices_are_settled.ensures c.saves_are_turns.ensures;
+  runs = runs_draw_in_order c.slices_are_settled.ensures c.saves_are_turns.ensures;
   apart = ordered_are_apart;
   moved = moved_are_same;
 }

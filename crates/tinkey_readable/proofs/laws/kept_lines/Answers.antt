@@ -12,7 +12,7 @@ returns-clause-open c =
       sound = c.edited_kept.ensures.sound;
       keyset = c.edited_kept.ensures.keysets;
     } in
-    made_opens c.kept_anywhere.ensures.opens c.talk_is_turns.ensures c.sound_usable.ensures.aead l
+    made_opens c.kept_anywhere.ensures.opens c.saves_are_turns.ensures c.sound_usable.ensures.aead l
 
 pub returns-clause-dopen : goal.returns-clause-dopen
 returns-clause-dopen c =
@@ -24,7 +24,7 @@ returns-clause-dopen c =
       sound = c.edited_kept.ensures.sound;
       keyset = c.edited_kept.ensures.keysets;
     } in
-    made_dopens c.kept_anywhere.ensures.dopens c.talk_is_turns.ensures c.sound_usable.ensures.daead l
+    made_dopens c.kept_anywhere.ensures.dopens c.saves_are_turns.ensures c.sound_usable.ensures.daead l
 
 pub returns-clause-open_present : goal.returns-clause-open_present
 returns-clause-open_present c =
@@ -36,7 +36,7 @@ returns-clause-open_present c =
       sound = c.edited_kept.ensures.sound;
       keyset = c.edited_kept.ensures.keysets;
     } in
-    made_opens_present c.kept_anywhere.ensures.opens_somehow c.talk_is_turns.ensures c.sound_usable.ensures.aead l
+    made_opens_present c.kept_anywhere.ensures.opens_somehow c.saves_are_turns.ensures c.sound_usable.ensures.aead l
 
 pub returns-clause-dopen_present : goal.returns-clause-dopen_present
 returns-clause-dopen_present c =
@@ -48,7 +48,7 @@ returns-clause-dopen_present c =
       sound = c.edited_kept.ensures.sound;
       keyset = c.edited_kept.ensures.keysets;
     } in
-    made_dopens_present c.kept_anywhere.ensures.dopens_somehow c.talk_is_turns.ensures c.sound_usable.ensures.daead l
+    made_dopens_present c.kept_anywhere.ensures.dopens_somehow c.saves_are_turns.ensures c.sound_usable.ensures.daead l
 
 pub returns-clause-verify : goal.returns-clause-verify
 returns-clause-verify c =
@@ -60,4 +60,4 @@ returns-clause-verify c =
       sound = c.edited_kept.ensures.sound;
       keyset = c.edited_kept.ensures.keysets;
     } in
-    made_verifies c.kept_anywhere.ensures.verifies c.talk_is_turns.ensures c.sound_usable.ensures.mac l
+    made_verifies c.kept_anywhere.ensures.verifies c.saves_are_turns.ensures c.sound_usable.ensures.mac l

@@ -5,15 +5,15 @@ use Rattle.tinkey_session.specs.Feeding.{point}
 use Rattle.tinkey_session.proofs.talk.finish.Goals as goal
 
 pub returns-then-is_empty-clause-finished : goal.returns-then-is_empty-clause-finished
-returns-then-is_empty-clause-finished g c = λ output. finished_none _ (point c.args.talk.session.keyset c.args.talk.line.items c.args.talk.count) output _ _ (grind (arith, nat_tests, c.is_empty.ensures, c.if-is_empty.true))
+returns-then-is_empty-clause-finished g c = finished_none _ (point c.args.talk.session.keyset c.args.talk.line.items c.args.talk.count) _ _ _ (grind (arith, nat_tests, c.is_empty.ensures, c.if-is_empty.true))
 
 pub returns-in-Err-clause-stopped : goal.returns-in-Err-clause-stopped
-returns-in-Err-clause-stopped g c = λ output. stopped_last _ _ output _ _ _ (grind (arith, nat_tests, c.is_empty.ensures, c.if-is_empty.false)) (rw c.requires.none at c.in-Err.ensures.stopped output)
+returns-in-Err-clause-stopped g c = stopped_last _ _ _ _ _ (grind (arith, nat_tests, c.is_empty.ensures, c.if-is_empty.false)) (rw c.requires.none at c.in-Err.ensures.stopped)
 
 pub returns-in-Ok-flush-clause-finished : goal.returns-in-Ok-flush-clause-finished
-returns-in-Ok-flush-clause-finished g c = λ output. finished_line _ _ _ output _ _ (grind (arith, nat_tests, c.is_empty.ensures, c.if-is_empty.false)) refl
-    (fed_written _ _ _ output _ _ _ _ _ _ _ _ refl (rw c.requires.none at c.in-Ok.ensures.fed output) c.in-Ok-flush.ensures.all c.in-Ok-flush.ensures.no_fault)
+returns-in-Ok-flush-clause-finished g c = finished_line _ _ _ _ _ (grind (arith, nat_tests, c.is_empty.ensures, c.if-is_empty.false)) refl
+    (fed_written _ _ _ _ _ _ _ _ _ _ _ _ _ _ refl (rw c.requires.none at c.in-Ok.ensures.fed) c.in-Ok-flush.ensures.all c.in-Ok-flush.ensures.no_fault)
 
 pub returns-in-Err-flush-clause-stopped : goal.returns-in-Err-flush-clause-stopped
-returns-in-Err-flush-clause-stopped g c = λ output. stopped_last _ _ output _ _ _ (grind (arith, nat_tests, c.is_empty.ensures, c.if-is_empty.false))
-    (cut_behind _ _ _ _ output _ _ _ _ _ _ _ (rw c.requires.none at c.in-Ok.ensures.fed output) c.in-Err-flush.ensures.prefix c.in-Err-flush.ensures.failed)
+returns-in-Err-flush-clause-stopped g c = stopped_last _ _ _ _ _ (grind (arith, nat_tests, c.is_empty.ensures, c.if-is_empty.false))
+    (cut_behind _ _ _ _ _ _ _ _ _ _ _ _ _ _ (rw c.requires.none at c.in-Ok.ensures.fed) c.in-Err-flush.ensures.prefix c.in-Err-flush.ensures.failed)
