@@ -6,6 +6,7 @@ tools/library runs them, and compares the module with outside values besides."""
 import base64
 import copy
 import errno
+import hmac
 import io
 import json
 import os
@@ -116,6 +117,70 @@ class Handles(unittest.TestCase):
         text = keyset(key("AesGcmKey"))
         self.assertRaises(tinkey.Refused, tinkey.Aead.from_encrypted, text, text)
         self.assertRaises(tinkey.NoKeyset, tinkey.Aead.from_json, '{"encryptedKeyset": "AQID"}')
+
+
+class Sizes(unittest.TestCase):
+    """Calls at both sides of every size at which the module does something else."""
+
+    sizes = (0, 1, 255, 256, 257, 2047, 2048, 2049, 4000, 4063, 4064, 4095, 4096, 4097, 70000)
+
+    def test_every_size_comes_back(self):
+        aead = tinkey.Aead.from_json(keyset(key("AesGcmKey")))
+        daead = tinkey.DeterministicAead.from_json(keyset(key("AesSivKey")))
+        for seal, unseal in ((aead.encrypt, aead.decrypt),
+                             (daead.encrypt_deterministically, daead.decrypt_deterministically)):
+            for size in self.sizes:
+                for text, data in ((os.urandom(size), b"ad"), (b"text", os.urandom(size))):
+                    sealed = seal(bytearray(text), memoryview(data))
+                    self.assertEqual(unseal(sealed, data), text)
+                    self.assertRaises(tinkey.Refused, unseal, sealed, data + b"x")
+                    self.assertRaises(tinkey.Refused, unseal, sealed[:-1], data)
+        # what was given before stays as it was, though the next answer is written to the same place
+        first, second = aead.encrypt(b"first"), aead.encrypt(b"second")
+        self.assertEqual((aead.decrypt(first), aead.decrypt(second)), (b"first", b"second"))
+
+    def test_tags_of_every_size_are_those_of_hmac(self):
+        with tinkey.Mac.from_json(keyset(key("HmacKey"))) as keys:
+            for size in self.sizes:
+                body = os.urandom(size)
+                tag = b"\x01\x00\x00\x00\x07" + hmac.new(bytes(32), body, "sha256").digest()[:16]
+                self.assertEqual(keys.compute_mac(body), tag)
+                keys.verify_mac(bytearray(tag), memoryview(body))
+                for wrong in (tag[:-1], tag + b"x", bytes(size)):
+                    self.assertRaises(tinkey.Refused, keys.verify_mac, wrong, body)
+
+    def test_bytes_of_every_length_are_those_of_hkdf(self):
+        with tinkey.Prf.from_json(keyset(key("HkdfPrfKey"))) as keys:
+            for data in (b"", b"data", bytes(300)):
+                # RFC 5869, with no salt: the key is extracted, and the data is the info
+                extracted, block, whole = hmac.new(bytes(32), bytes(32), "sha256").digest(), b"", b""
+                for at in range(1, 256):
+                    block = hmac.new(extracted, block + data + bytes([at]), "sha256").digest()
+                    whole += block
+                for length in (*(it for it in self.sizes if it <= 8160), 8160):
+                    self.assertEqual(keys.compute(data, length), whole[:length])
+                self.assertRaises(tinkey.TooLong, keys.compute, data, 8161)
+            self.assertRaises(ValueError, keys.compute, b"data", -1)
+            for wrong in ("16", b"16", None, 16.5):
+                self.assertRaises(TypeError, keys.compute, b"data", wrong)
+
+    def test_a_closed_handle_does_nothing(self):
+        for kind, name, calls in ((tinkey.Aead, "AesGcmKey", ("encrypt", "decrypt")),
+                                  (tinkey.DeterministicAead, "AesSivKey",
+                                   ("encrypt_deterministically", "decrypt_deterministically")),
+                                  (tinkey.Mac, "HmacKey", ("compute_mac",)), (tinkey.Prf, "HkdfPrfKey", ()),
+                                  (tinkey.Streaming, "AesGcmHkdfStreamingKey", ("sealing", "opening"))):
+            keys = kind.from_json(keyset(key(name)))
+            keys.close()
+            for call in calls:
+                for data in (b"data", bytes(5000)):
+                    with self.assertRaises(ValueError):
+                        getattr(keys, call)(data)
+            if kind is tinkey.Mac:
+                self.assertRaises(ValueError, keys.verify_mac, b"tag", b"data")
+            if kind is tinkey.Prf:
+                for length in (16, 5000):
+                    self.assertRaises(ValueError, keys.compute, b"data", length)
 
 
 class Raw(io.RawIOBase):

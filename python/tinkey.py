@@ -153,20 +153,35 @@ def _function(name: str, *arguments: Any, gives: Any = ctypes.c_int) -> Any:
     return function
 
 
+def _fast(name: str) -> Any:
+    """A function whose types ctypes isn't told, since it takes words as they are then, in about half of the time.
+
+    This module passes it `bytes`, sizes as `_sized` gives them, and what `create_string_buffer`, `byref` and
+    `from_param` give, and nothing else.
+    """
+    return _library[name]
+
+
 # The number of each form of a text, and what gives the text's bytes.
 _FORMS = {"json": (0, _json), "binary": (1, _bytes)}
 _INPUT = (ctypes.c_char_p, _size)
 _TEXT = (ctypes.c_char_p, _size, ctypes.c_int)
 _OUTPUT = (ctypes.c_char_p, _size, ctypes.POINTER(_size))
 
-# The same where time counts: ctypes turns words of these types into C's in about half of the time. This module passes
-# `bytes`, a buffer or what `byref` gives for each such pointer, and nothing else.
-_FAST = (_pointer, _size)
-_FAST_OUTPUT = (_pointer, _size, _pointer)
+# The sizes below `_FEW` as ctypes passes them to C, made once.
+_FEW = 257
+_SIZES = tuple(map(_size.from_param, range(_FEW)))
+
+
+def _sized(size: int) -> Any:
+    """A size as ctypes passes it to C."""
+    return _SIZES[size] if size < _FEW else _size(size)
+
 
 # An answer of at most so many bytes is written into memory that its handle keeps; and a call that adds to its input
 # adds less than half of that.
 _SHORT = 4096
+_SHORT_ROOM = _size.from_param(_SHORT)
 
 
 class _Owned:
@@ -175,12 +190,12 @@ class _Owned:
     _name = ""
 
     def __init__(self, new: str, types: Sequence[Any], words: Sequence[Any]) -> None:
-        self._at: Optional[ctypes.c_void_p] = None
+        self._at: Any = None
         self._lock = threading.Lock()
         made = _pointer()
         function = _function(f"tinkey_{self._name}_{new}", *types, ctypes.POINTER(_pointer))
         _check(function(*words, ctypes.byref(made)))
-        self._at = made
+        self._at = _pointer.from_param(made.value)
 
     def close(self) -> None:
         """Lets it go. What is closed may be closed again, and does nothing else."""
@@ -216,9 +231,8 @@ class _Handle(_Owned):
     def __init__(self, new: str, types: Sequence[Any], words: Sequence[Any]) -> None:
         super().__init__(new, types, words)
         # what each call needs, and only the one that holds the lock uses
-        self._first_size, self._second_size, self._made_size = _size(), _size(), _size()
+        self._made_size, self._out = _size(), ctypes.create_string_buffer(_SHORT)
         self._made_at = ctypes.byref(self._made_size)
-        self._out, self._room = ctypes.create_string_buffer(_SHORT), _size(_SHORT)
 
     @classmethod
     def from_json(cls: Type[Self], text: Text) -> Self:
@@ -246,40 +260,35 @@ class _Handle(_Owned):
         text, key = bytes_of(encrypted), master_bytes_of(master)
         return cls("new_wrapped", _TEXT + _TEXT, (text, len(text), number, key, len(key), master_number))
 
-    def _made(self, function: Any, room: int, first: bytes, second: Optional[bytes] = None) -> bytes:
-        """What a function writes from one input or two into an output with that room, or with more."""
+    def _made(self, function: Any, room_of: Any, first: Buffer, second: Buffer) -> bytes:
+        """What a function writes from two inputs, into an output with at least the room that the first one asks for."""
+        # here and below no function is called for what takes less time than a call
+        data = first if isinstance(first, bytes) else _bytes(first)
+        more = second if isinstance(second, bytes) else _bytes(second)
+        size, more_size = len(data), len(more)
+        out, room = self._out, _SHORT_ROOM
+        if 2 * size > _SHORT:
+            most = room_of(size)
+            if most > _SHORT:
+                out, room = ctypes.create_string_buffer(most), _size(most)
         with self._lock:
             if not self._at:
                 raise ValueError("the handle is closed")
-            out, most, size = self._out, self._room, self._first_size
-            if room > _SHORT:
-                out, most = ctypes.create_string_buffer(room), _size(room)
-            size.value = len(first)
-            if second is None:
-                status = function(self._at, first, size, out, most, self._made_at)
-            else:
-                self._second_size.value = len(second)
-                status = function(self._at, first, size, second, self._second_size, out, most, self._made_at)
+            status = function(self._at, data, _SIZES[size] if size < _FEW else _size(size),
+                              more, _SIZES[more_size] if more_size < _FEW else _size(more_size),
+                              out, room, self._made_at)
             if not status:
                 return out[:self._made_size.value]
         raise _ERRORS.get(status, TinkeyError)()
 
 
-def _room(function: Any, size: int) -> int:
-    """The room of an answer that is as long as its input, and what the library adds."""
-    return _SHORT if 2 * size <= _SHORT else function(size)
-
-
-_aead_seal = _function("tinkey_aead_seal", _pointer, *_FAST, *_FAST, *_FAST_OUTPUT)
-_aead_open = _function("tinkey_aead_open", _pointer, *_FAST, *_FAST, *_FAST_OUTPUT)
-_aead_room = _function("tinkey_aead_seal_room", _size, gives=_size)
-_daead_seal = _function("tinkey_daead_seal", _pointer, *_FAST, *_FAST, *_FAST_OUTPUT)
-_daead_open = _function("tinkey_daead_open", _pointer, *_FAST, *_FAST, *_FAST_OUTPUT)
-_daead_room = _function("tinkey_daead_seal_room", _size, gives=_size)
-_mac_tag = _function("tinkey_mac_tag", _pointer, *_FAST, *_FAST_OUTPUT)
-_mac_verify = _function("tinkey_mac_verify", _pointer, *_FAST, *_FAST)
-_MAC_ROOM = _function("tinkey_mac_tag_room", gives=_size)()
-_prf_derive = _function("tinkey_prf_derive", _pointer, *_FAST, *_FAST)
+_aead_seal, _aead_open = _fast("tinkey_aead_seal"), _fast("tinkey_aead_open")
+_aead_seal_room = _function("tinkey_aead_seal_room", _size, gives=_size)
+_aead_open_room = _function("tinkey_aead_open_room", _size, gives=_size)
+_daead_seal, _daead_open = _fast("tinkey_daead_seal"), _fast("tinkey_daead_open")
+_daead_seal_room = _function("tinkey_daead_seal_room", _size, gives=_size)
+_daead_open_room = _function("tinkey_daead_open_room", _size, gives=_size)
+_mac_tag, _mac_verify, _prf_derive = _fast("tinkey_mac_tag"), _fast("tinkey_mac_verify"), _fast("tinkey_prf_derive")
 
 
 class Aead(_Handle):
@@ -289,13 +298,11 @@ class Aead(_Handle):
 
     def encrypt(self, plaintext: Buffer, associated_data: Buffer = b"") -> bytes:
         """Seals under the primary key, with a fresh IV of the system's random bytes."""
-        plain = _bytes(plaintext)
-        return self._made(_aead_seal, _room(_aead_room, len(plain)), plain, _bytes(associated_data))
+        return self._made(_aead_seal, _aead_seal_room, plaintext, associated_data)
 
     def decrypt(self, ciphertext: Buffer, associated_data: Buffer = b"") -> bytes:
         """Opens what an ENABLED key of the keyset sealed, or raises `Refused`."""
-        sealed = _bytes(ciphertext)
-        return self._made(_aead_open, len(sealed), sealed, _bytes(associated_data))
+        return self._made(_aead_open, _aead_open_room, ciphertext, associated_data)
 
 
 class DeterministicAead(_Handle):
@@ -305,13 +312,11 @@ class DeterministicAead(_Handle):
 
     def encrypt_deterministically(self, plaintext: Buffer, associated_data: Buffer = b"") -> bytes:
         """Seals under the primary key."""
-        plain = _bytes(plaintext)
-        return self._made(_daead_seal, _room(_daead_room, len(plain)), plain, _bytes(associated_data))
+        return self._made(_daead_seal, _daead_seal_room, plaintext, associated_data)
 
     def decrypt_deterministically(self, ciphertext: Buffer, associated_data: Buffer = b"") -> bytes:
         """Opens what an ENABLED key of the keyset sealed, or raises `Refused`."""
-        sealed = _bytes(ciphertext)
-        return self._made(_daead_open, len(sealed), sealed, _bytes(associated_data))
+        return self._made(_daead_open, _daead_open_room, ciphertext, associated_data)
 
 
 class Mac(_Handle):
@@ -321,12 +326,19 @@ class Mac(_Handle):
 
     def compute_mac(self, data: Buffer) -> bytes:
         """The tag under the primary key, behind its output prefix."""
-        return self._made(_mac_tag, _MAC_ROOM, _bytes(data))
+        body = _bytes(data)
+        with self._lock:
+            if not self._at:
+                raise ValueError("the handle is closed")
+            status = _mac_tag(self._at, body, _sized(len(body)), self._out, _SHORT_ROOM, self._made_at)
+            if not status:
+                return self._out[:self._made_size.value]
+        raise _ERRORS.get(status, TinkeyError)()
 
     def verify_mac(self, mac: Buffer, data: Buffer) -> None:
         """Raises `Refused` where the tag isn't the data's under any ENABLED key."""
         tag, body = _bytes(mac), _bytes(data)
-        _check(self._call(_mac_verify, tag, len(tag), body, len(body)))
+        _check(self._call(_mac_verify, tag, _sized(len(tag)), body, _sized(len(body))))
 
 
 class Prf(_Handle):
@@ -336,9 +348,16 @@ class Prf(_Handle):
 
     def compute(self, data: Buffer, output_length: int) -> bytes:
         """So many bytes from the data under the primary key, or raises `TooLong`."""
-        given, out = _bytes(data), ctypes.create_string_buffer(output_length or 1)
-        _check(self._call(_prf_derive, given, len(given), out, output_length))
-        return out[:output_length]
+        given, out = _bytes(data), self._out
+        if not 0 <= output_length <= _SHORT:
+            out = ctypes.create_string_buffer(output_length)
+        with self._lock:
+            if not self._at:
+                raise ValueError("the handle is closed")
+            status = _prf_derive(self._at, given, _sized(len(given)), out, _sized(output_length))
+            if not status:
+                return out[:output_length]
+        raise _ERRORS.get(status, TinkeyError)()
 
 
 _sealing_update = _function("tinkey_sealing_update", _pointer, *_INPUT, *_OUTPUT)
