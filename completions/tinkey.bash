@@ -50,7 +50,7 @@ _tinkey() {
             tag) words='--keyset --keyset-format --out --hex --master --master-format --help' ;;
             verify) words='--keyset --tag-hex --keyset-format --master --master-format --help' ;;
             derive) words='--keyset --length --keyset-format --out --hex --master --master-format --help' ;;
-            session) words='--keyset --keyset-format --out --out-format --master --master-format --help' ;;
+            session) words='--keyset --keyset-format --out --out-format --saved --master --master-format --help' ;;
             selftest) words='--seed --lines --help' ;;
             wrap-keyset) words='--master --master-format --in --in-format --out --out-format --help' ;;
             unwrap-keyset) words='--master --master-format --in --in-format --out --out-format --help' ;;

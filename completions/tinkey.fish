@@ -80,3 +80,4 @@ complete -c tinkey -n '__tinkey_is srange' -l from -x -d 'the offset of the firs
 complete -c tinkey -n '__tinkey_is tag derive' -l hex -d 'writes the output in hexadecimal'
 complete -c tinkey -n '__tinkey_is key-of' -l as -x -a 'text envelope stream' -d 'what the input is: a sealed text or a tag, an envelope, or a stream'
 complete -c tinkey -n '__tinkey_is list-key-templates' -l for -x -a 'seal open dseal dopen reseal dreseal sseal sopen sreseal tag verify derive wrap-keyset unwrap-keyset eseal eopen ereseal srange' -d 'the command that the templates’ keys are to serve'
+complete -c tinkey -n '__tinkey_is session' -l saved -d 'seals and tags only under a keyset that a file has'

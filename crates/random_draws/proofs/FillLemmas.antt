@@ -231,4 +231,4 @@ line_took table keys (Verify tag body) random x e = took-unless (unfit keys Mac 
 line_took table keys (Derive size input) random x e = took-unless (unfit keys Prf table) keys random _ x (took-computed keys random (derived_reply size) (derive_answer keys table input size) x) e
 line_took table keys (AsksEdit edit) random x e = asked_took table keys edit random x e
 line_took table keys (Save name outcome) random x e = saved_took keys outcome random x e
-line_took table keys Bad random x e = took-answered keys random _ x e
+line_took table keys (Bad why) random x e = took-answered keys random _ x e

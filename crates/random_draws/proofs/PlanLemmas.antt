@@ -28,7 +28,7 @@ use Rattle.tinkey_plans.specs.declared.origin.Origin.TheVariants as origins
 use Rattle.tinkey_plans.specs.declared.status.Status.TheVariants as status
 use Rattle.tinkey_selftest.specs.Trial as trial
 use Rattle.tinkey_selftest.specs.declared.counts.Counts.{Counts}
-use Rattle.tinkey_session.specs.Saving.{Form}
+use Rattle.tinkey_session.specs.Saving.{Form, with_saved_only}
 use Rattle.tinkey_words.specs.declared.words.misuse.Misuse.{Misuse}
 use Rattle.tinkey_words.specs.declared.words.request.StreamWork.{StreamWork}
 use Rattle.tinkey_words.specs.declared.words.request.StreamWork.TheVariants as works
@@ -116,8 +116,8 @@ free_drawing : (file : Option (List ℕ)) (next : Unit {0} → Plan) → IsDrawi
 free_drawing None next all = all
 free_drawing (Some name) next all = all
 
-session_drawing : (table : Table) (master : Option Keys) (out : KeysetFile) (keys : Keys) → IsDrawing (holds_session table master out keys)
-session_drawing table master out keys = free_drawing out.file _ ((table, form_under table master out.form, keys, λ answers. refl), saved_drawing table master out.file out.form)
+session_drawing : (table : Table) (master : Option Keys) (out : KeysetFile) (saved_only : Bool) (keys : Keys) → IsDrawing (holds_session table master out saved_only keys)
+session_drawing table master out saved_only keys = free_drawing out.file _ ((table, with_saved_only saved_only (form_under table master out.form), keys, λ answers. refl), saved_drawing table master out.file out.form)
 
 streams_drawing : (table : Table) (lock : Lock) (name : List ℕ) (form : Format) (next : KeysForStreams → Plan) → AreAll IsDrawing next → IsDrawing (streaming.loads_stream_keys table lock name form next)
 streams_drawing table lock name form next all = loaded_each IsDrawing open_drawing table lock name form _ (λ keys. stream_fit_drawing _ (streams.stream_unfit keys) _ (stream_keys_drawing (streaming.keys_for keys) next all))
@@ -139,7 +139,7 @@ commands_are_drawing table (use_envelope lock name form template work out) = dek
 commands_are_drawing table (use_stream lock name form work ad out) = streams_drawing table lock name form _ (λ k. begun_drawing out (streaming.passes_stream work k ad out) (stream_drawing work ad out k))
 commands_are_drawing table (open_range lock name form ad range out) = streams_drawing table lock name form _ (λ k opened. range_each IsDrawing closed opened _ (put_drawing out))
 commands_are_drawing table (self_test seed lines) = counts_drawing (trial.self_test table seed lines) lines
-commands_are_drawing table (session lock name form out) = lock_each IsDrawing open_drawing table lock _ (λ master. under_each IsDrawing open_drawing origins.Keyset table master (record { file = Some name; form = form }) _ (session_drawing table master out))
+commands_are_drawing table (session lock name form out saved_only) = lock_each IsDrawing open_drawing table lock _ (λ master. under_each IsDrawing open_drawing origins.Keyset table master (record { file = Some name; form = form }) _ (session_drawing table master out saved_only))
 commands_are_drawing table (help topic) = tt
 commands_are_drawing table version = tt
 

@@ -96,7 +96,7 @@ fills_more table keys (Verify tag body) random more x e = refl
 fills_more table keys (Derive size input) random more x e = refl
 fills_more table keys (AsksEdit edit) random more x e = asked_more table keys edit random more x e
 fills_more table keys (Save name outcome) random more x e = refl
-fills_more table keys Bad random more x e = refl
+fills_more table keys (Bad why) random more x e = refl
 
 abbrev with_behind : List ℕ → Served → Served
 with_behind more x = record x { left = x.left ++ more }

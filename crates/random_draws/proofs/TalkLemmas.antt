@@ -29,11 +29,11 @@ drew : SlicesAreSettled → SavesAreTurns → (table : Table) (form : Form) (ans
 drew settled is_turns table form answers keys stream place taken more bytes unused rest unwritten ended moved front parts stands told =
     let t = is_turns table form answers keys taken bytes ended in
     let asked : List Line = map line_of t.answered in
-    let lines : List Line = lines_by table (resolved form answers) [] keys asked bytes in
+    let lines : List Line = lines_by table (resolved form answers) [] false keys asked bytes in
     let split : bytes ++ (unused ++ rest) ≡ drop place stream = sym (append_assoc bytes unused rest) ∙ ap (λ l. l ++ rest) parts ∙ stands in
     let same = settled table keys lines bytes (unused ++ rest) t.last t.remains' in
     let lines_same : lines_drawn stream place table (resolved form answers) keys t.answered ≡ lines =
-    ap (lines_by table (resolved form answers) [] keys asked) (sym split) ∙ lines_more table form answers [] keys asked bytes (unused ++ rest) t.last t.remains' in
+    ap (lines_by table (resolved form answers) [] false keys asked) (sym split) ∙ lines_more table form answers [] false keys asked bytes (unused ++ rest) t.last t.remains' in
     let turns_same : turns table keys (lines_drawn stream place table (resolved form answers) keys t.answered) (drop place stream) ≡ turns table keys lines bytes =
     ap (λ ls. turns table keys ls (drop place stream)) lines_same ∙ ap (turns table keys lines) (sym split) ∙ same.0 in
     let slices_same : slices table keys (lines_drawn stream place table (resolved form answers) keys t.answered) (drop place stream) ≡ slices table keys lines bytes =

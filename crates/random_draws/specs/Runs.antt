@@ -5,7 +5,7 @@
 --   HasDrawn      the slices of a run, which was left so
 --   RunDrew       the same, with where they stand
 --   DrewInARow    those of runs one after another
-use Rattle.std.specs.Prelude.{◌≡◌, ◌≢◌, ℕ, ◌+◌, ◌≤◌, List, [], ◌∷◌, ◌++◌, length, drop, map, true, Option, Some, slice_get}
+use Rattle.std.specs.Prelude.{◌≡◌, ◌≢◌, ℕ, ◌+◌, ◌≤◌, List, [], ◌∷◌, ◌++◌, length, drop, map, true, false, Option, Some, slice_get}
 use mathlib.Core.Logic.{inl, inr}
 use Rattle.keyset_model.specs.Keyset.{Keys}
 use Rattle.managers.specs.Table.{Table}
@@ -51,11 +51,12 @@ MovedAreSame = (more : ℕ) (d : Slice) (stream : List ℕ)
 -- the lines of a session, each as it is resolved over what those before it left of the stream from this place on
 abbrev pub lines_drawn : (stream : List ℕ) (place : ℕ) → Table → Resolves → Keys → List (List ℕ) → List Line
 lines_drawn stream place table resolve keys answered =
-    lines_by table resolve [] keys (map line_of answered) (drop place stream)
+    lines_by table resolve [] false keys (map line_of answered) (drop place stream)
 
 -- What a session over this keyset drew of the stream from this place on. Of the lines of the bytes
 -- that were taken the first ones were answered, each by its own slices; their replies were written,
--- or the first bytes of these. What lines come to ask is `resolve` of them: one that saves the keyset draws its IV.
+-- or the first bytes of these. What lines come to ask is `resolve` of them: one that saves the keyset draws its IV, and
+-- one that is refused since the keyset isn't saved draws nothing.
 pub record SessionDrew (stream : List ℕ) (place : ℕ) (table : Table) (resolve : Resolves) (keys : Keys)
     (moved : Moved) (mine : List Slice) : Type 0 where
   pub taken : List ℕ

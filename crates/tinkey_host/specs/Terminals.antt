@@ -67,7 +67,7 @@ suits_terminal (list_keyset lock in') = true
 suits_terminal (key_of lock keyset form kind ad) = true
 suits_terminal (list_key_templates primitive) = true
 suits_terminal (self_test seed lines) = true
-suits_terminal (session lock keyset form out) = true
+suits_terminal (session lock keyset form out saved_only) = true
 suits_terminal (help topic) = true
 suits_terminal version = true
 
@@ -79,7 +79,7 @@ reads_input (key_of lock keyset form kind ad) = true
 reads_input (use_keyset lock keyset form work out) = true
 reads_input (use_envelope lock keyset form template work out) = true
 reads_input (use_stream lock keyset form work ad out) = true
-reads_input (session lock keyset form out) = true
+reads_input (session lock keyset form out saved_only) = true
 reads_input (create_keyset lock template out) = false
 reads_input (list_key_templates primitive) = false
 reads_input (open_range lock keyset form ad range out) = false

@@ -236,7 +236,7 @@ commands_are_proper table (use_envelope lock name form template work out) = (dek
 commands_are_proper table (use_stream lock name form work ad out) = loaded_each IsProper open' table lock name form _ (λ keys. stream_fit_proper _ (streams.stream_unfit keys) _ (stream_keys_proper (keys_for keys) _ (λ k. begins_proper out (passes_stream work k ad out) (stream_proper work ad out k))))
 commands_are_proper table (open_range lock name form ad range out) = (loaded_each IsProper open' table lock name form _ (λ keys. stream_fit_proper _ (streams.stream_unfit keys) _ (stream_keys_proper (keys_for keys) _ (λ k. (λ e. cc, λ opened. range_each IsProper closed opened _ (put_proper out))))))
 commands_are_proper table (self_test seed lines) = (counts_proper (trial.self_test table seed lines) lines)
-commands_are_proper table (session lock name form out) = lock_each IsProper open' table lock _ (λ master. under_each IsProper open' origins.Keyset table master (record { file = Some name; form = form }) (holds_session table master out) (λ keys. free_proper out.file _ (λ last. saves_proper table master out.file out.form last)))
+commands_are_proper table (session lock name form out saved_only) = lock_each IsProper open' table lock _ (λ master. under_each IsProper open' origins.Keyset table master (record { file = Some name; form = form }) (holds_session table master out saved_only) (λ keys. free_proper out.file _ (λ last. saves_proper table master out.file out.form last)))
 commands_are_proper table (help topic) = tt
 commands_are_proper table version = tt
 

@@ -88,6 +88,6 @@ commands_are_whole table (use_stream lock name form work ad None) = inr (inl tt)
 commands_are_whole table (use_stream lock name form work ad (Some out)) = inl (loaded_each IsWhole open' table lock name form _ (λ keys. stream_fit_whole _ (streams.stream_unfit keys) _ (stream_keys_whole (streaming.keys_for keys) _ (stream_whole work ad out))))
 commands_are_whole table (open_range lock name form ad range out) = inl (loaded_each IsWhole open' table lock name form _ (λ keys. stream_fit_whole _ (streams.stream_unfit keys) _ (stream_keys_whole (streaming.keys_for keys) _ (λ k opened. range_each IsWhole closed opened _ (put_whole out)))))
 commands_are_whole table (self_test seed lines) = inl (counts_whole (trial.self_test table seed lines) lines)
-commands_are_whole table (session lock name form out) = inr (inr tt)
+commands_are_whole table (session lock name form out saved_only) = inr (inr tt)
 commands_are_whole table (help topic) = inl tt
 commands_are_whole table version = inl tt

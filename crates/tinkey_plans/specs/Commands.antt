@@ -94,7 +94,8 @@ command_plan table (use_stream lock name form work ad out) =
 command_plan table (open_range lock name form ad range out) =
     range_output table lock name form ad range (puts out)
 command_plan table (self_test seed lines) = self_test_output table seed lines writes
-command_plan table (session lock name form out) = session_plan table lock name form out
+command_plan table (session lock name form out saved_only) =
+    session_plan table lock name form out saved_only
 command_plan table (help topic) = writes (help_text topic)
 command_plan table version = writes version_text
 

@@ -816,13 +816,16 @@ command_text commands.Session =
     ++ codes "       before it, and --out those of a session that ended with exit code 0. What was sealed\n"
     ++ codes "       or tagged under a key that the session made, and that no file has, never opens or\n"
     ++ codes "       verifies again. So send save behind each add and rotate, and wait for its ok before\n"
-    ++ codes "       you hand out what the new key seals\n\n"
+    ++ codes "       you hand out what the new key seals; or give --saved, with which no line seals,\n"
+    ++ codes "       reseals or tags while the keyset has an edit that no file has\n\n"
     ++ codes "  tinkey session --keyset FILE [--keyset-format json|binary] [--out FILE]\n"
-    ++ codes "      [--out-format json|binary] [--master FILE] [--master-format json|binary]\n\n"
+    ++ codes "      [--out-format json|binary] [--saved] [--master FILE] [--master-format json|binary]\n\n"
     ++ codes "Required:\n"
     ++ keyset_31
     ++ codes "\nOptional:\n"
-    ++ keyset_format_31 ++ out_31 ++ out_format_31 ++ master_31 ++ master_format_31
+    ++ keyset_format_31 ++ out_31 ++ out_format_31
+    ++ codes "  --saved                      seals and tags only under a keyset that a file has\n"
+    ++ master_31 ++ master_format_31
     ++ codes "\nReads  the keyset, and lines on standard input; bytes are hexadecimal, and - stands for none\n"
     ++ codes "Gives  one reply for each line, on standard output: ok and what the line gives, or no and\n"
     ++ codes "       the reason, and the session goes on; and then the last keyset in the new file of\n"
@@ -883,6 +886,9 @@ command_text commands.Session =
     ++ codes "      to save: anything has the name: no file is ever replaced\n"
     ++ codes "  no keyset too long\n"
     ++ codes "      to save: as it is written it would be too long to be read again\n"
+    ++ codes "  no keyset is not saved\n"
+    ++ codes "      to seal, dseal, reseal, dreseal, tag: only with --saved: since the last accepted edit\n"
+    ++ codes "      no save was answered ok\n"
     ++ codes "  no store fault\n"
     ++ codes "      to save: the file couldn't be made: its folder isn't there, permission is missing, the\n"
     ++ codes "      disk is full\n"

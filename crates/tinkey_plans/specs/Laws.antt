@@ -63,7 +63,7 @@ IsStream _ = ⊥
 
 -- a session is asked for
 abbrev pub IsSession : Asked → Type 0
-IsSession (session lock keyset form out) = Unit {0}
+IsSession (session lock keyset form out saved_only) = Unit {0}
 IsSession _ = ⊥
 
 -- every other command writes nothing but at its end

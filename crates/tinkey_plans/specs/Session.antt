@@ -1,13 +1,13 @@
 -- The session of a command, as steps of plans. What its lines are answered is said apart from
 -- plans, in Serving and Talking of tinkey_session.
-use Rattle.std.specs.Prelude.{ℕ, List, length, nat_le, Bool, Option, Some, None, Result, Ok, Err, if◌then◌else◌}
+use Rattle.std.specs.Prelude.{ℕ, List, length, nat_le, Bool, false, Option, Some, None, Result, Ok, Err, if◌then◌else◌}
 use Rattle.key_msgs.specs.declared.key.KeyKind.{KeyKind}
 use Rattle.key_msgs.specs.declared.primitive.Primitive.TheVariants.{Aead}
 use Rattle.keyset_model.specs.Writing.{binary_of}
 use Rattle.keyset_model.specs.Keyset.{Keys}
 use Rattle.managers.specs.Table.{Table}
 use Rattle.managers.specs.Uses.{iv_size}
-use Rattle.tinkey_session.specs.Saving.{Form, StoreAnswers}
+use Rattle.tinkey_session.specs.Saving.{Form, StoreAnswers, with_saved_only}
 use Rattle.tinkey_session.specs.Talking.{Exchange, saving, talk_by}
 use Rattle.tinkey_session.specs.declared.reply.LineRefusal.{LineRefusal}
 use Rattle.tinkey_session.specs.declared.reply.LineRefusal.TheVariants.{KeysetTooLong}
@@ -61,6 +61,7 @@ abbrev pub form_clear : Format → Form
 form_clear form = record {
   size = λ keys. 0;
   written = λ keys iv. file_within keyset_limit (written_in form keys);
+  saved_only = false;
 }
 
 -- under a master
@@ -69,6 +70,7 @@ form_sealed table master form = record {
   size = λ keys. if is_short keys then iv_under (primary_key master table Aead) else 0;
   written = λ keys iv. if is_short keys then wrapped_within (wrap_of keys master table iv (is_json form))
       else Err KeysetTooLong;
+  saved_only = false;
 }
 
 -- or in either way
@@ -76,23 +78,26 @@ abbrev pub form_under : Table → (master : Option Keys) → Format → Form
 form_under table None form = form_clear form
 form_under table (Some master) form = form_sealed table master form
 
--- the session over a keyset, whose lines save it in this form, in clear or under a master
-abbrev pub saving_session : Table → (master : Option Keys) → Format → Keys → StoreAnswers → Exchange
-saving_session table master form keys answers =
-    talk_by (saving table (form_under table master form) answers) keys
+-- the session over a keyset, whose lines save it in this form, in clear or under a master; and seal and tag only
+-- under a keyset that a file has, or always
+abbrev pub saving_session : Table → (master : Option Keys) → Format → (saved_only : Bool) → Keys → StoreAnswers
+    → Exchange
+saving_session table master form saved_only keys answers =
+    talk_by (saving table (with_saved_only saved_only (form_under table master form)) answers) keys
 
 -- The lines of the input are answered over this keyset, and then the last one is saved. A line saves it in the form in
 -- which the last one is saved. The name that it
 -- is to have is looked up before a byte of the input is taken, so that no reply is given for a keyset that
 -- has no place.
-abbrev pub holds_session : Table → (master : Option Keys) → (out : KeysetFile) → Keys → Plan
-holds_session table master out keys =
-    finds_free out.file (λ free. exchanges (saving_session table master out.form keys) (saves table master out))
+abbrev pub holds_session : Table → (master : Option Keys) → (out : KeysetFile) → (saved_only : Bool) → Keys → Plan
+holds_session table master out saved_only keys =
+    finds_free out.file (λ free.
+    exchanges (saving_session table master out.form saved_only keys) (saves table master out))
 
 -- session: over the keyset in the file of this name, in clear or under a lock, which the last keyset is put
--- under, too
-abbrev pub session_plan : Table → Lock → List ℕ → Format → (out : KeysetFile) → Plan
-session_plan table lock name form out =
+-- under, too; whether lines seal and tag only under a keyset that a file has is said
+abbrev pub session_plan : Table → Lock → List ℕ → Format → (out : KeysetFile) → (saved_only : Bool) → Plan
+session_plan table lock name form out saved_only =
     opens_lock table lock (λ master.
     takes_under origins.Keyset table master (record { file = Some name; form = form })
-    (holds_session table master out))
+    (holds_session table master out saved_only))

@@ -951,15 +951,17 @@ Lost   every edit that no file has: a line save FILE that was answered ok keeps 
        before it, and --out those of a session that ended with exit code 0. What was sealed
        or tagged under a key that the session made, and that no file has, never opens or
        verifies again. So send save behind each add and rotate, and wait for its ok before
-       you hand out what the new key seals
+       you hand out what the new key seals; or give --saved, with which no line seals,
+       reseals or tags while the keyset has an edit that no file has
 
   tinkey session --keyset FILE [--keyset-format json|binary] [--out FILE]
-      [--out-format json|binary] [--master FILE] [--master-format json|binary]
+      [--out-format json|binary] [--saved] [--master FILE] [--master-format json|binary]
 
 Required:
 " keyset_31 "
 Optional:
-" keyset_format_31 out_31 out_format_31 master_31 master_format_31 "
+" keyset_format_31 out_31 out_format_31 "  --saved                      seals and tags only under a keyset that a file has
+" master_31 master_format_31 "
 Reads  the keyset, and lines on standard input; bytes are hexadecimal, and - stands for none
 Gives  one reply for each line, on standard output: ok and what the line gives, or no and
        the reason, and the session goes on; and then the last keyset in the new file of
@@ -1022,6 +1024,9 @@ Why a line is refused:
       to save: anything has the name: no file is ever replaced
   no keyset too long
       to save: as it is written it would be too long to be read again
+  no keyset is not saved
+      to seal, dseal, reseal, dreseal, tag: only with --saved: since the last accepted edit
+      no save was answered ok
   no store fault
       to save: the file couldn't be made: its folder isn't there, permission is missing, the
       disk is full

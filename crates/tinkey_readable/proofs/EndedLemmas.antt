@@ -27,8 +27,8 @@ use Rattle.tinkey_session.specs.Lines.{Line, Outcome, Save, line_of}
 use Rattle.tinkey_session.specs.Serving.{Served, serve}
 use Rattle.tinkey_session.specs.Session.{Remains, Turn, lines_by, lines_of, lines_then, remains, turn_then, turns}
 use Rattle.tinkey_session.specs.TalkLaws.{SavesAreTurns, replies_text}
-use Rattle.tinkey_session.specs.Saving.{Agrees, Asks, FileAsked, Form, StoreAnswers, files_of, iv_drawn, resolved}
-use Rattle.tinkey_session.specs.Talking.{Exchange, Limit, many_lines, long_line, Stop, goes, wants, passes, Talk, replied, line_ended, byte_taken, line_limit, count_limit, over, going, saving, talk_by, with_files}
+use Rattle.tinkey_session.specs.Saving.{Agrees, Asks, FileAsked, Form, StoreAnswers, files_of, iv_drawn, resolved, with_saved_only}
+use Rattle.tinkey_session.specs.Talking.{Exchange, Limit, many_lines, long_line, Stop, goes, wants, passes, Talk, replied, line_ended, byte_taken, line_limit, count_limit, over, going, saving, talk_by, unsaved_after, with_files}
 use Rattle.tinkey_session.specs.Talks.{HasAsked, HasTalked, Talks, limit_fault}
 use Rattle.tinkey_session.specs.Talks as talks
 use Rattle.tinkey_session.specs.Texts.{reply_text}
@@ -75,18 +75,18 @@ use Rattle.tinkey_plans.specs.UnfitKeys.{unfit_key}
 -- ---- the lines of the first bytes of an input
 
 -- what a session over these bytes has answered are the first lines, whatever follows
-record Answered (table : Table) (form : Form) (answers : StoreAnswers) (keys : Keys) (told : List ℕ) (first : List FileAsked) (random text : List ℕ) (x : Talk) : Type 0 where
+record Answered (table : Table) (form : Form) (answers : StoreAnswers) (keys : Keys) (told : List ℕ) (first : List FileAsked) (unsaved : Bool) (random text : List ℕ) (x : Talk) : Type 0 where
   answered : List (List ℕ)
   cut : (more : List ℕ) → (later : List (List ℕ)) × (lines_of (text ++ more) ≡ answered ++ later)
-  output : x.output ≡ told ++ replies_text (turns table keys (lines_by table (resolved form answers) first keys (each line_of answered) random) random)
-  asked : x.asked ≡ first ++ flat_map files_of (lines_by table (resolved form answers) first keys (each line_of answered) random)
-  whole : length (turns table keys (lines_by table (resolved form answers) first keys (each line_of answered) random) random) ≡ length answered
+  output : x.output ≡ told ++ replies_text (turns table keys (lines_by table (resolved form answers) first unsaved keys (each line_of answered) random) random)
+  asked : x.asked ≡ first ++ flat_map files_of (lines_by table (resolved form answers) first unsaved keys (each line_of answered) random)
+  whole : length (turns table keys (lines_by table (resolved form answers) first unsaved keys (each line_of answered) random) random) ≡ length answered
   last : Remains
-  remains' : remains table keys (lines_by table (resolved form answers) first keys (each line_of answered) random) random ≡ Some last
+  remains' : remains table keys (lines_by table (resolved form answers) first unsaved keys (each line_of answered) random) random ≡ Some last
 
-none_answered : (table : Table) (form : Form) (answers : StoreAnswers) (keys : Keys) (told : List ℕ) (first : List FileAsked) (random text : List ℕ) (x : Talk) → x.output ≡ told → x.asked ≡ first → Answered table form answers keys told first random text x
+none_answered : (table : Table) (form : Form) (answers : StoreAnswers) (keys : Keys) (told : List ℕ) (first : List FileAsked) (unsaved : Bool) (random text : List ℕ) (x : Talk) → x.output ≡ told → x.asked ≡ first → Answered table form answers keys told first unsaved random text x
 unfolding turns remains lines_by
-none_answered table form answers keys told first random text x same asked = record {
+none_answered table form answers keys told first unsaved random text x same asked = record {
   answered = [];
   cut = λ more. (lines_of (text ++ more), refl);
   output = same ∙ sym (append-nil told);
@@ -96,17 +96,17 @@ none_answered table form answers keys told first random text x same asked = reco
   remains' = refl;
 }
 
-one_answered : (table : Table) (form : Form) (answers : StoreAnswers) (keys : Keys) (told : List ℕ) (first : List FileAsked) (random line bytes : List ℕ) (x : Talk) (s : Served) → serve table keys (resolved form answers first keys random (line_of line)) random ≡ Some s → no_newline line ≡ true
-    → Answered table form answers s.keys (told ++ reply_text s.reply) (first ++ files_of (resolved form answers first keys random (line_of line))) s.left bytes x → Answered table form answers keys told first random (line ++ 10 ∷ bytes) x
+one_answered : (table : Table) (form : Form) (answers : StoreAnswers) (keys : Keys) (told : List ℕ) (first : List FileAsked) (unsaved : Bool) (random line bytes : List ℕ) (x : Talk) (s : Served) → serve table keys (resolved form answers first unsaved keys random (line_of line)) random ≡ Some s → no_newline line ≡ true
+    → Answered table form answers s.keys (told ++ reply_text s.reply) (first ++ files_of (resolved form answers first unsaved keys random (line_of line))) (unsaved_after unsaved (resolved form answers first unsaved keys random (line_of line)) s.reply) s.left bytes x → Answered table form answers keys told first unsaved random (line ++ 10 ∷ bytes) x
 unfolding turns remains lines_by
-one_answered table form answers keys told first random line bytes x s e none a =
-    let asks = resolved form answers first keys random (line_of line) in
+one_answered table form answers keys told first unsaved random line bytes x s e none a =
+    let asks = resolved form answers first unsaved keys random (line_of line) in
     let turn : Turn = record { before = keys; line = asks; reply = s.reply } in
-    let later : List Line = lines_by table (resolved form answers) (first ++ files_of asks) s.keys (each line_of a.answered) s.left in
+    let later : List Line = lines_by table (resolved form answers) (first ++ files_of asks) (unsaved_after unsaved asks s.reply) s.keys (each line_of a.answered) s.left in
     let behind = turns table s.keys later s.left in
-    let lines : lines_by table (resolved form answers) first keys (each line_of (line ∷ a.answered)) random ≡ asks ∷ later =
-    ap (λ o. asks ∷ lines_then (each line_of a.answered) o (λ y. lines_by table (resolved form answers) (first ++ files_of asks) y.keys (each line_of a.answered) y.left)) e in
-    let all : turns table keys (lines_by table (resolved form answers) first keys (each line_of (line ∷ a.answered)) random) random ≡ turn ∷ behind =
+    let lines : lines_by table (resolved form answers) first unsaved keys (each line_of (line ∷ a.answered)) random ≡ asks ∷ later =
+    ap (λ o. asks ∷ lines_then (each line_of a.answered) o (λ y. lines_by table (resolved form answers) (first ++ files_of asks) (unsaved_after unsaved asks y.reply) y.keys (each line_of a.answered) y.left)) e in
+    let all : turns table keys (lines_by table (resolved form answers) first unsaved keys (each line_of (line ∷ a.answered)) random) random ≡ turn ∷ behind =
     ap (λ ls. turns table keys ls random) lines ∙ ap (λ o. turn_then keys asks o (λ y. turns table y.keys later y.left)) e in
     record {
       answered = line ∷ a.answered;
@@ -120,13 +120,13 @@ one_answered table form answers keys told first random line bytes x s e none a =
 
 -- what is proved of the bytes that follow
 abbrev Follows : Table → Form → StoreAnswers → List ℕ → Type 0
-Follows table form answers bytes = (keys : Keys) (line : List ℕ) (before : ℕ) (told : List ℕ) (first : List FileAsked) (random : List ℕ) → no_newline line ≡ true
-    → Answered table form answers keys told first random (line ++ bytes) (over (saving table form answers) (going keys line before told first random) bytes)
+Follows table form answers bytes = (keys : Keys) (line : List ℕ) (before : ℕ) (told : List ℕ) (first : List FileAsked) (unsaved : Bool) (random : List ℕ) → no_newline line ≡ true
+    → Answered table form answers keys told first unsaved random (line ++ bytes) (over (saving table form answers) (going keys line before unsaved told first random) bytes)
 
 -- a session that is stopped answers no more
-stopped : (table : Table) (form : Form) (answers : StoreAnswers) (keys : Keys) (told : List ℕ) (first : List FileAsked) (random text bytes : List ℕ) (x : Talk) → x.stop ≢ goes → x.output ≡ told → x.asked ≡ first → Answered table form answers keys told first random text (over (saving table form answers) x bytes)
-stopped table form answers keys told first random text bytes x never same asked =
-    subst (Answered table form answers keys told first random text) (sym (over-stopped (saving table form answers) x bytes never)) (none_answered table form answers keys told first random text x same asked)
+stopped : (table : Table) (form : Form) (answers : StoreAnswers) (keys : Keys) (told : List ℕ) (first : List FileAsked) (unsaved : Bool) (random text bytes : List ℕ) (x : Talk) → x.stop ≢ goes → x.output ≡ told → x.asked ≡ first → Answered table form answers keys told first unsaved random text (over (saving table form answers) x bytes)
+stopped table form answers keys told first unsaved random text bytes x never same asked =
+    subst (Answered table form answers keys told first unsaved random text) (sym (over-stopped (saving table form answers) x bytes never)) (none_answered table form answers keys told first unsaved random text x same asked)
 
 wants≢goes : wants ≢ goes
 wants≢goes e = cc
@@ -134,35 +134,35 @@ wants≢goes e = cc
 passes≢goes : (limit : Limit) → passes limit ≢ goes
 passes≢goes limit e = cc
 
-line_answered : (table : Table) (form : Form) (answers : StoreAnswers) (b : ℕ) (bytes : List ℕ) → Follows table form answers bytes → (keys : Keys) (line : List ℕ) (before : ℕ) (told : List ℕ) (first : List FileAsked) (random : List ℕ) → no_newline line ≡ true → b ≡ 10
-    → Answered table form answers keys told first random (line ++ b ∷ bytes) (over (saving table form answers) (line_ended (saving table form answers) (going keys line before told first random)) bytes)
-line_answered table form answers b bytes follows keys line before told first random none is = by (serve table keys asks random) refl
+line_answered : (table : Table) (form : Form) (answers : StoreAnswers) (b : ℕ) (bytes : List ℕ) → Follows table form answers bytes → (keys : Keys) (line : List ℕ) (before : ℕ) (told : List ℕ) (first : List FileAsked) (unsaved : Bool) (random : List ℕ) → no_newline line ≡ true → b ≡ 10
+    → Answered table form answers keys told first unsaved random (line ++ b ∷ bytes) (over (saving table form answers) (line_ended (saving table form answers) (going keys line before unsaved told first random)) bytes)
+line_answered table form answers b bytes follows keys line before told first unsaved random none is = by (serve table keys asks random) refl
   where
     asks : Line
-    asks = resolved form answers first keys random (line_of line)
+    asks = resolved form answers first unsaved keys random (line_of line)
 
-    by : (o : Option Served) → serve table keys asks random ≡ o → Answered table form answers keys told first random (line ++ b ∷ bytes) (over (saving table form answers) (replied (going keys line before told first random) (option_map (with_files asks) o)) bytes)
-    by None e = stopped table form answers keys told first random (line ++ b ∷ bytes) bytes (record (going keys line before told first random) { random = []; stop = wants }) wants≢goes refl refl
+    by : (o : Option Served) → serve table keys asks random ≡ o → Answered table form answers keys told first unsaved random (line ++ b ∷ bytes) (over (saving table form answers) (replied (going keys line before unsaved told first random) (option_map (with_files unsaved asks) o)) bytes)
+    by None e = stopped table form answers keys told first unsaved random (line ++ b ∷ bytes) bytes (record (going keys line before unsaved told first random) { random = []; stop = wants }) wants≢goes refl refl
     by (Some s) e =
-        subst (λ c. Answered table form answers keys told first random (line ++ c ∷ bytes) (over (saving table form answers) (replied (going keys line before told first random) (Some (with_files asks s))) bytes)) (sym is)
-        (one_answered table form answers keys told first random line bytes _ s e none (follows s.keys [] (suc before) (told ++ reply_text s.reply) (first ++ files_of asks) s.left refl))
+        subst (λ c. Answered table form answers keys told first unsaved random (line ++ c ∷ bytes) (over (saving table form answers) (replied (going keys line before unsaved told first random) (Some (with_files unsaved asks s))) bytes)) (sym is)
+        (one_answered table form answers keys told first unsaved random line bytes _ s e none (follows s.keys [] (suc before) (told ++ reply_text s.reply) (first ++ files_of asks) (unsaved_after unsaved asks s.reply) s.left refl))
 
-byte_answered : (table : Table) (form : Form) (answers : StoreAnswers) (b : ℕ) (bytes : List ℕ) → Follows table form answers bytes → (keys : Keys) (line : List ℕ) (before : ℕ) (told : List ℕ) (first : List FileAsked) (random : List ℕ) → no_newline line ≡ true
-    → Answered table form answers keys told first random (line ++ b ∷ bytes) (over (saving table form answers) (byte_taken (saving table form answers) (going keys line before told first random) b) bytes)
-byte_answered table form answers b bytes follows keys line before told first random none = by (nat_le count_limit before) (b == 10) refl (nat_le line_limit (length line))
+byte_answered : (table : Table) (form : Form) (answers : StoreAnswers) (b : ℕ) (bytes : List ℕ) → Follows table form answers bytes → (keys : Keys) (line : List ℕ) (before : ℕ) (told : List ℕ) (first : List FileAsked) (unsaved : Bool) (random : List ℕ) → no_newline line ≡ true
+    → Answered table form answers keys told first unsaved random (line ++ b ∷ bytes) (over (saving table form answers) (byte_taken (saving table form answers) (going keys line before unsaved told first random) b) bytes)
+byte_answered table form answers b bytes follows keys line before told first unsaved random none = by (nat_le count_limit before) (b == 10) refl (nat_le line_limit (length line))
   where
-    by : (many ends : Bool) → (b == 10) ≡ ends → (long : Bool) → Answered table form answers keys told first random (line ++ b ∷ bytes) (over (saving table form answers) (byte_by many ends long (saving table form answers) (going keys line before told first random) b) bytes)
-    by true ends n long = stopped table form answers keys told first random (line ++ b ∷ bytes) bytes (record (going keys line before told first random) { stop = passes many_lines }) (passes≢goes many_lines) refl refl
-    by false true n long = line_answered table form answers b bytes follows keys line before told first random none (eqb-true _ _ n)
-    by false false n true = stopped table form answers keys told first random (line ++ b ∷ bytes) bytes (record (going keys line before told first random) { stop = passes long_line }) (passes≢goes long_line) refl refl
+    by : (many ends : Bool) → (b == 10) ≡ ends → (long : Bool) → Answered table form answers keys told first unsaved random (line ++ b ∷ bytes) (over (saving table form answers) (byte_by many ends long (saving table form answers) (going keys line before unsaved told first random) b) bytes)
+    by true ends n long = stopped table form answers keys told first unsaved random (line ++ b ∷ bytes) bytes (record (going keys line before unsaved told first random) { stop = passes many_lines }) (passes≢goes many_lines) refl refl
+    by false true n long = line_answered table form answers b bytes follows keys line before told first unsaved random none (eqb-true _ _ n)
+    by false false n true = stopped table form answers keys told first unsaved random (line ++ b ∷ bytes) bytes (record (going keys line before unsaved told first random) { stop = passes long_line }) (passes≢goes long_line) refl refl
     by false false n false =
-        subst (λ t. Answered table form answers keys told first random t (over (saving table form answers) (going keys (line ++ b ∷ []) before told first random) bytes)) (append_assoc line (b ∷ []) bytes)
-        (follows keys (line ++ b ∷ []) before told first random (no_newline-more line b none n))
+        subst (λ t. Answered table form answers keys told first unsaved random t (over (saving table form answers) (going keys (line ++ b ∷ []) before unsaved told first random) bytes)) (append_assoc line (b ∷ []) bytes)
+        (follows keys (line ++ b ∷ []) before told first unsaved random (no_newline-more line b none n))
 
 taken_answered : (table : Table) (form : Form) (answers : StoreAnswers) (taken : List ℕ) → Follows table form answers taken
 unfolding over
-taken_answered table form answers [] keys line before told first random none = none_answered table form answers keys told first random (line ++ []) (going keys line before told first random) refl refl
-taken_answered table form answers (b ∷ bytes) keys line before told first random none = byte_answered table form answers b bytes (taken_answered table form answers bytes) keys line before told first random none
+taken_answered table form answers [] keys line before told first unsaved random none = none_answered table form answers keys told first unsaved random (line ++ []) (going keys line before unsaved told first random) refl refl
+taken_answered table form answers (b ∷ bytes) keys line before told first unsaved random none = byte_answered table form answers b bytes (taken_answered table form answers bytes) keys line before told first unsaved random none
 
 -- ---- more random bytes
 
@@ -201,12 +201,12 @@ record More (table : Table) (form : Form) (answers : StoreAnswers) (keys : Keys)
 
 with_more : (table : Table) (form : Form) (answers : StoreAnswers) (keys : Keys) (answered : List (List ℕ)) (drawn rest : List ℕ) (last : Remains) → remains table keys (resolved_lines table form answers keys answered drawn) drawn ≡ Some last → More table form answers keys answered drawn rest
 with_more table form answers keys answered drawn rest last is =
-    let same = lines_more table form answers [] keys (each line_of answered) drawn rest last is in
+    let same = lines_more table form answers [] false keys (each line_of answered) drawn rest last is in
     record { lines = same; turns' = ap (λ ls. turns table keys ls (drawn ++ rest)) same ∙ turns_more table keys (resolved_lines table form answers keys answered drawn) drawn rest last is }
 
 of_front : (table : Table) (form : Form) (answers : StoreAnswers) (keys : Keys) (taken more drawn rest : List ℕ) → Wrote table form answers keys (taken ++ more) (drawn ++ rest) (talk_by (saving table form answers) keys taken drawn false) ⊥
 of_front table form answers keys taken more drawn rest =
-    let a = taken_answered table form answers taken keys [] 0 [] [] drawn refl in
+    let a = taken_answered table form answers taken keys [] 0 [] [] false drawn refl in
     let c = a.cut more in
     let m = with_more table form answers keys a.answered drawn rest a.last a.remains' in
     record {
@@ -281,7 +281,7 @@ is_written : (table : Table) (form : Form) (answers : StoreAnswers) (keys : Keys
     → flat_map files_of (resolved_lines table form answers keys answered told.random) ≡ store.asked ++ unasked → unasked ≡ []
     → (i : ℕ) (t : Turn) (name : List ℕ) (outcome : Outcome) → slice_get (turns_of table form answers keys answered told.random) i ≡ Some t → t.line ≡ Save name outcome → t.reply ≡ Done → IsSavedAs form t.before new.store name
 is_written table form answers keys told store new answered unasked on files none i t name outcome at line reply =
-    let there = line_there table form answers [] keys (each line_of answered) told.random i t at in
+    let there = line_there table form answers [] false keys (each line_of answered) told.random i t at in
     let w = saved_at table form answers keys (each line_of answered) told.random i t name outcome there line reply in
     let asked : store.asked ≡ w.first ++ made_file name w.bytes ∷ w.later = sym (append-nil store.asked) ∙ ap (λ l. store.asked ++ l) (sym none) ∙ sym files ∙ w.split in
     let asks = subst (λ l. AsksOver l (Some told.files) store.after) asked store.asks in
@@ -423,29 +423,29 @@ session_left readable law table form answers keys told store old s new fault is 
         let random = split new.entropy.left old.entropy.left told.random (drawn ++ part) tells.random drew.left in
         some_lines taken (more ++ input.0) drawn (part ++ random.0) (input.2 ∙ append_assoc taken more input.0) (random.2 ∙ append_assoc drawn part random.0) false (λ h. absurd (cc)) [] (asked ∙ sym (append-nil store.asked)) (λ h. refl) (λ h. took) (λ h. absurd (cc))
 
-talk_ends : TurnsAreReadable → SavesAreTurns → (table : Table) (master : Option Keys) (out : KeysetFile) (keys : Keys) (told : Told) (old : World) (s : Status) (new : World) → IsKeyset keys → Tells old told → Ends (exchanges (saving_session table master out.form keys) (saves table master out)) old s new
-    → HasReplies table (form_under table master out.form) keys told old s new
-talk_ends readable law table master out keys told old s new is tells (exchanged last mid talk steady later) =
-    let so = some_session (saving_session table master out.form keys) (Ok last) (sides_of old) (sides_of mid) old.store mid.store talk in
+talk_ends : TurnsAreReadable → SavesAreTurns → (table : Table) (master : Option Keys) (out : KeysetFile) (saved_only : Bool) (keys : Keys) (told : Told) (old : World) (s : Status) (new : World) → IsKeyset keys → Tells old told → Ends (exchanges (saving_session table master out.form saved_only keys) (saves table master out)) old s new
+    → HasReplies table (with_saved_only saved_only (form_under table master out.form)) keys told old s new
+talk_ends readable law table master out saved_only keys told old s new is tells (exchanged last mid talk steady later) =
+    let so = some_session (saving_session table master out.form saved_only keys) (Ok last) (sides_of old) (sides_of mid) old.store mid.store talk in
     let store = store_gave so.0 told old mid talk.asked tells.files talk.asks so.1 in
-    session_done readable law table (form_under table master out.form) so.0 keys last told store old mid s new is tells (λ name bytes has. stays (saves table master out last) mid s new name bytes later has)
-    (went (saving_session table master out.form keys so.0) last talk.asked (sides_of old) (sides_of mid) so.2 so.3) (saved table master out.file out.form last mid s new later)
-talk_ends readable law table master out keys told old s new is tells (exchange_ended fault ended talk steady) =
-    let so = some_session (saving_session table master out.form keys) (Err fault) (sides_of old) (sides_of new) old.store new.store talk in
+    session_done readable law table (with_saved_only saved_only (form_under table master out.form)) so.0 keys last told store old mid s new is tells (λ name bytes has. stays (saves table master out last) mid s new name bytes later has)
+    (went (saving_session table master out.form saved_only keys so.0) last talk.asked (sides_of old) (sides_of mid) so.2 so.3) (saved table master out.file out.form last mid s new later)
+talk_ends readable law table master out saved_only keys told old s new is tells (exchange_ended fault ended talk steady) =
+    let so = some_session (saving_session table master out.form saved_only keys) (Err fault) (sides_of old) (sides_of new) old.store new.store talk in
     let store = store_gave so.0 told old new talk.asked tells.files talk.asks so.1 in
-    session_left readable law table (form_under table master out.form) so.0 keys told store old s new fault is tells (λ name bytes has. has) ended so.2 so.3
+    session_left readable law table (with_saved_only saved_only (form_under table master out.form)) so.0 keys told store old s new fault is tells (λ name bytes has. has) ended so.2 so.3
 
 -- behind a name that was looked up
-session_ends : TurnsAreReadable → SavesAreTurns → (table : Table) (master : Option Keys) (out : KeysetFile) (keys : Keys) (told : Told) (old : World) (s : Status) (new : World) → IsKeyset keys → Tells old told → Ends (holds_session table master out keys) old s new → HasReplies table (form_under table master out.form) keys told old s new
-session_ends readable law table master out keys told old s new is tells run = by out.file run
+session_ends : TurnsAreReadable → SavesAreTurns → (table : Table) (master : Option Keys) (out : KeysetFile) (saved_only : Bool) (keys : Keys) (told : Told) (old : World) (s : Status) (new : World) → IsKeyset keys → Tells old told → Ends (holds_session table master out saved_only keys) old s new → HasReplies table (with_saved_only saved_only (form_under table master out.form)) keys told old s new
+session_ends readable law table master out saved_only keys told old s new is tells run = by out.file run
   where
-    by : (file : Option (List ℕ)) → Ends (finds_free file (λ free. exchanges (saving_session table master out.form keys) (saves table master out))) old s new → HasReplies table (form_under table master out.form) keys told old s new
-    by None run = talk_ends readable law table master out keys told old s new is tells run
+    by : (file : Option (List ℕ)) → Ends (finds_free file (λ free. exchanges (saving_session table master out.form saved_only keys) (saves table master out))) old s new → HasReplies table (with_saved_only saved_only (form_under table master out.form)) keys told old s new
+    by None run = talk_ends readable law table master out saved_only keys told old s new is tells run
     by (Some name) (look_free store kept stood given holds run) =
-        let r = talk_ends readable law table master out keys told (record old { store = store }) s new is (record { input = tells.input; files = sym kept.files ∙ tells.files; random = tells.random }) run in
+        let r = talk_ends readable law table master out saved_only keys told (record old { store = store }) s new is (record { input = tells.input; files = sym kept.files ∙ tells.files; random = tells.random }) run in
         record { answers = r.answers; store = r.store; answered = r.answered; later = r.later; cut = r.cut; all = r.all; whole = r.whole; unasked = r.unasked; files = r.files; none_unasked = r.none_unasked; saved = r.saved; took = r.took; front = r.front; readable = r.readable }
-    by (Some name) (look_taken e only kept stood given there) = none_replied table (form_under table master out.form) keys told old s new (λ h. let clash : status.Done ≡ status.OutExists = sym h ∙ e in absurd (cc)) (λ h. let clash : status.WriteFault ≡ status.OutExists = sym h ∙ e in absurd (cc)) (took_same old.sink new.sink only.sink)
-    by (Some name) (look_failed e only kept rose given) = none_replied table (form_under table master out.form) keys told old s new (λ h. absurd (cc)) (λ h. absurd (cc)) (took_same old.sink new.sink only.sink)
+    by (Some name) (look_taken e only kept stood given there) = none_replied table (with_saved_only saved_only (form_under table master out.form)) keys told old s new (λ h. let clash : status.Done ≡ status.OutExists = sym h ∙ e in absurd (cc)) (λ h. let clash : status.WriteFault ≡ status.OutExists = sym h ∙ e in absurd (cc)) (took_same old.sink new.sink only.sink)
+    by (Some name) (look_failed e only kept rose given) = none_replied table (with_saved_only saved_only (form_under table master out.form)) keys told old s new (λ h. absurd (cc)) (λ h. absurd (cc)) (took_same old.sink new.sink only.sink)
 
 -- ---- the keyset before it
 
@@ -473,18 +473,18 @@ starved_replies table form keys told old s new is same = none_replied table form
 abbrev none_written : (table : Table) (form : Form) (keys : Keys) (told : Told) (old : World) (s : Status) (new : World) → s ≢ status.Done → s ≢ status.WriteFault → old.sink ≡ new.sink → HasReplies table form keys told old s new
 none_written table form keys told old s new undone other same = none_replied table form keys told old s new undone other (took_same old.sink new.sink same)
 
-text_ends : TurnsAreReadable → SavesAreTurns → ReadKeysFit → (table : Table) (master : Option Keys) (name bytes : List ℕ) (form : Format) (out : KeysetFile) (keys : Keys) (told : Told) (old : World) (s : Status) (new : World) → Tells old told → map.get told.files name ≡ Some bytes → GivesKeyset table master form bytes keys
-    → Ends (takes_under origins.Keyset table master (record { file = Some name; form = form }) (holds_session table master out)) old s new → HasReplies table (form_under table master out.form) keys told old s new
-text_ends readable law fit table master name bytes form out keys told old s new tells there gives (loaded found store kept stood given within holds run) =
+text_ends : TurnsAreReadable → SavesAreTurns → ReadKeysFit → (table : Table) (master : Option Keys) (name bytes : List ℕ) (form : Format) (out : KeysetFile) (saved_only : Bool) (keys : Keys) (told : Told) (old : World) (s : Status) (new : World) → Tells old told → map.get told.files name ≡ Some bytes → GivesKeyset table master form bytes keys
+    → Ends (takes_under origins.Keyset table master (record { file = Some name; form = form }) (holds_session table master out saved_only)) old s new → HasReplies table (with_saved_only saved_only (form_under table master out.form)) keys told old s new
+text_ends readable law fit table master name bytes form out saved_only keys told old s new tells there gives (loaded found store kept stood given within holds run) =
     let same : bytes ≡ found = same_Some _ _ (sym there ∙ file_told old.store told.files name found tells.files holds) in
     let mid : World = record old { store = store } in
     let mid_tells : Tells mid told = record { input = tells.input; files = sym kept.files ∙ tells.files; random = tells.random } in
     let is = given_is_keyset fit table master form bytes keys gives (subst (λ l. length l ≤ limit_under master) (sym same) within) in
-    by mid mid_tells is refl (under_ends origins.Keyset table master form bytes keys (holds_session table master out) mid s new gives (subst (λ l. Ends (keyset_under origins.Keyset table master form l (holds_session table master out)) mid s new) (sym same) run))
+    by mid mid_tells is refl (under_ends origins.Keyset table master form bytes keys (holds_session table master out saved_only) mid s new gives (subst (λ l. Ends (keyset_under origins.Keyset table master form l (holds_session table master out saved_only)) mid s new) (sym same) run))
   where
-    by : (mid : World) → Tells mid told → IsKeyset keys → mid.sink ≡ old.sink → Ends (holds_session table master out keys) mid s new ⊎ ((s ≡ status.NoMemory) × (mid ≡ new)) → HasReplies table (form_under table master out.form) keys told old s new
+    by : (mid : World) → Tells mid told → IsKeyset keys → mid.sink ≡ old.sink → Ends (holds_session table master out saved_only keys) mid s new ⊎ ((s ≡ status.NoMemory) × (mid ≡ new)) → HasReplies table (with_saved_only saved_only (form_under table master out.form)) keys told old s new
     by mid tells is sink (inl run) =
-        let r = session_ends readable law table master out keys told mid s new is tells run in
+        let r = session_ends readable law table master out saved_only keys told mid s new is tells run in
         record {
           answers = r.answers;
           store = r.store;
@@ -497,21 +497,21 @@ text_ends readable law fit table master name bytes form out keys told old s new 
           files = r.files;
           none_unasked = r.none_unasked;
           saved = r.saved;
-          took = λ other. subst (λ (k : SinkState). Took k new.sink (replies_text (turns_of table (form_under table master out.form) r.answers keys r.answered told.random))) sink (r.took other);
-          front = λ fault. subst (λ (k : SinkState). TookPrefix k new.sink (replies_text (turns_of table (form_under table master out.form) r.answers keys r.answered told.random))) sink (r.front fault);
+          took = λ other. subst (λ (k : SinkState). Took k new.sink (replies_text (turns_of table (with_saved_only saved_only (form_under table master out.form)) r.answers keys r.answered told.random))) sink (r.took other);
+          front = λ fault. subst (λ (k : SinkState). TookPrefix k new.sink (replies_text (turns_of table (with_saved_only saved_only (form_under table master out.form)) r.answers keys r.answered told.random))) sink (r.front fault);
           readable = r.readable;
         }
-    by mid tells is sink (inr (e, same)) = starved_replies table (form_under table master out.form) keys told old s new e (sym sink ∙ ap (λ (w : World). w.sink) same)
-text_ends readable law fit table master name bytes form out keys told old s new tells there gives (load_absent is only kept stood given holds) = none_written table (form_under table master out.form) keys told old s new (λ h. absurd (cc)) (λ h. absurd (cc)) only.sink
-text_ends readable law fit table master name bytes form out keys told old s new tells there gives (load_long is only kept stood given holds) = none_written table (form_under table master out.form) keys told old s new (λ h. absurd (cc)) (λ h. absurd (cc)) only.sink
-text_ends readable law fit table master name bytes form out keys told old s new tells there gives (load_failed is only kept rose given) = none_written table (form_under table master out.form) keys told old s new (λ h. absurd (cc)) (λ h. absurd (cc)) only.sink
-text_ends readable law fit table master name bytes form out keys told old s new tells there gives (load_starved is only kept stood given) = starved_replies table (form_under table master out.form) keys told old s new is only.sink
+    by mid tells is sink (inr (e, same)) = starved_replies table (with_saved_only saved_only (form_under table master out.form)) keys told old s new e (sym sink ∙ ap (λ (w : World). w.sink) same)
+text_ends readable law fit table master name bytes form out saved_only keys told old s new tells there gives (load_absent is only kept stood given holds) = none_written table (with_saved_only saved_only (form_under table master out.form)) keys told old s new (λ h. absurd (cc)) (λ h. absurd (cc)) only.sink
+text_ends readable law fit table master name bytes form out saved_only keys told old s new tells there gives (load_long is only kept stood given holds) = none_written table (with_saved_only saved_only (form_under table master out.form)) keys told old s new (λ h. absurd (cc)) (λ h. absurd (cc)) only.sink
+text_ends readable law fit table master name bytes form out saved_only keys told old s new tells there gives (load_failed is only kept rose given) = none_written table (with_saved_only saved_only (form_under table master out.form)) keys told old s new (λ h. absurd (cc)) (λ h. absurd (cc)) only.sink
+text_ends readable law fit table master name bytes form out saved_only keys told old s new tells there gives (load_starved is only kept stood given) = starved_replies table (with_saved_only saved_only (form_under table master out.form)) keys told old s new is only.sink
 
 -- behind a lock
-lock_ends : TurnsAreReadable → SavesAreTurns → ReadKeysFit → (table : Table) (lock : Master) (of_lock : List ℕ) (over : Keys) (name bytes : List ℕ) (form : Format) (out : KeysetFile) (keys : Keys) (told : Told) (old : World) (s : Status) (new : World)
+lock_ends : TurnsAreReadable → SavesAreTurns → ReadKeysFit → (table : Table) (lock : Master) (of_lock : List ℕ) (over : Keys) (name bytes : List ℕ) (form : Format) (out : KeysetFile) (saved_only : Bool) (keys : Keys) (told : Told) (old : World) (s : Status) (new : World)
     → Tells old told → map.get told.files lock.file ≡ Some of_lock → read_in lock.form of_lock ≡ Some over → map.get told.files name ≡ Some bytes → GivesKeyset table (Some over) form bytes keys
-    → Ends (session_plan table (Some lock) name form out) old s new → HasReplies table (form_under table (Some over) out.form) keys told old s new
-lock_ends readable law fit table lock of_lock over name bytes form out keys told old s new tells lies read there gives (loaded found store kept stood given within holds run) =
+    → Ends (session_plan table (Some lock) name form out saved_only) old s new → HasReplies table (with_saved_only saved_only (form_under table (Some over) out.form)) keys told old s new
+lock_ends readable law fit table lock of_lock over name bytes form out saved_only keys told old s new tells lies read there gives (loaded found store kept stood given within holds run) =
     let same : of_lock ≡ found = same_Some _ _ (sym lies ∙ file_told old.store told.files lock.file found tells.files holds) in
     by_keyset (keyset_ends origins.Master lock.form of_lock over fits mid s new read (subst (λ l. Ends (keyset_in origins.Master lock.form l fits) mid s new) (sym same) run))
   where
@@ -522,42 +522,42 @@ lock_ends readable law fit table lock of_lock over name bytes form out keys told
     mid_tells = record { input = tells.input; files = sym kept.files ∙ tells.files; random = tells.random }
 
     taken : Option Keys → Plan
-    taken master = takes_under origins.Keyset table master (record { file = Some name; form = form }) (holds_session table master out)
+    taken master = takes_under origins.Keyset table master (record { file = Some name; form = form }) (holds_session table master out saved_only)
 
     fits : Keys → Plan
     fits m = handles origins.Master table Aead m (λ fit. taken (Some m))
 
-    by_fit : (u : Option (ℕ × Unfit)) → Ends (unless_unfit (unfit_key origins.Master over) u (taken (Some over))) mid s new → HasReplies table (form_under table (Some over) out.form) keys told old s new
+    by_fit : (u : Option (ℕ × Unfit)) → Ends (unless_unfit (unfit_key origins.Master over) u (taken (Some over))) mid s new → HasReplies table (with_saved_only saved_only (form_under table (Some over) out.form)) keys told old s new
     by_fit None run =
-        let r = text_ends readable law fit table (Some over) name bytes form out keys told mid s new mid_tells there gives run in
+        let r = text_ends readable law fit table (Some over) name bytes form out saved_only keys told mid s new mid_tells there gives run in
         record { answers = r.answers; store = r.store; answered = r.answered; later = r.later; cut = r.cut; all = r.all; whole = r.whole; unasked = r.unasked; files = r.files; none_unasked = r.none_unasked; saved = r.saved; took = r.took; front = r.front; readable = r.readable }
-    by_fit (Some found) (is, same) = none_written table (form_under table (Some over) out.form) keys told old s new (λ h. absurd (cc)) (λ h. absurd (cc)) (ap (λ (w : World). w.sink) same)
+    by_fit (Some found) (is, same) = none_written table (with_saved_only saved_only (form_under table (Some over) out.form)) keys told old s new (λ h. absurd (cc)) (λ h. absurd (cc)) (ap (λ (w : World). w.sink) same)
 
-    by_handles : Ends (fits over) mid s new → HasReplies table (form_under table (Some over) out.form) keys told old s new
+    by_handles : Ends (fits over) mid s new → HasReplies table (with_saved_only saved_only (form_under table (Some over) out.form)) keys told old s new
     by_handles (inl run) = by_fit (unfit over Aead table) run
-    by_handles (inr (is, same)) = starved_replies table (form_under table (Some over) out.form) keys told old s new is (ap (λ (w : World). w.sink) same)
+    by_handles (inr (is, same)) = starved_replies table (with_saved_only saved_only (form_under table (Some over) out.form)) keys told old s new is (ap (λ (w : World). w.sink) same)
 
-    by_keyset : Ends (fits over) mid s new ⊎ ((s ≡ status.NoMemory) × (mid ≡ new)) → HasReplies table (form_under table (Some over) out.form) keys told old s new
+    by_keyset : Ends (fits over) mid s new ⊎ ((s ≡ status.NoMemory) × (mid ≡ new)) → HasReplies table (with_saved_only saved_only (form_under table (Some over) out.form)) keys told old s new
     by_keyset (inl run) = by_handles run
-    by_keyset (inr (is, same)) = starved_replies table (form_under table (Some over) out.form) keys told old s new is (ap (λ (w : World). w.sink) same)
-lock_ends readable law fit table lock of_lock over name bytes form out keys told old s new tells lies read there gives (load_absent is only kept stood given holds) = none_written table (form_under table (Some over) out.form) keys told old s new (λ h. absurd (cc)) (λ h. absurd (cc)) only.sink
-lock_ends readable law fit table lock of_lock over name bytes form out keys told old s new tells lies read there gives (load_long is only kept stood given holds) = none_written table (form_under table (Some over) out.form) keys told old s new (λ h. absurd (cc)) (λ h. absurd (cc)) only.sink
-lock_ends readable law fit table lock of_lock over name bytes form out keys told old s new tells lies read there gives (load_failed is only kept rose given) = none_written table (form_under table (Some over) out.form) keys told old s new (λ h. absurd (cc)) (λ h. absurd (cc)) only.sink
-lock_ends readable law fit table lock of_lock over name bytes form out keys told old s new tells lies read there gives (load_starved is only kept stood given) = starved_replies table (form_under table (Some over) out.form) keys told old s new is only.sink
+    by_keyset (inr (is, same)) = starved_replies table (with_saved_only saved_only (form_under table (Some over) out.form)) keys told old s new is (ap (λ (w : World). w.sink) same)
+lock_ends readable law fit table lock of_lock over name bytes form out saved_only keys told old s new tells lies read there gives (load_absent is only kept stood given holds) = none_written table (with_saved_only saved_only (form_under table (Some over) out.form)) keys told old s new (λ h. absurd (cc)) (λ h. absurd (cc)) only.sink
+lock_ends readable law fit table lock of_lock over name bytes form out saved_only keys told old s new tells lies read there gives (load_long is only kept stood given holds) = none_written table (with_saved_only saved_only (form_under table (Some over) out.form)) keys told old s new (λ h. absurd (cc)) (λ h. absurd (cc)) only.sink
+lock_ends readable law fit table lock of_lock over name bytes form out saved_only keys told old s new tells lies read there gives (load_failed is only kept rose given) = none_written table (with_saved_only saved_only (form_under table (Some over) out.form)) keys told old s new (λ h. absurd (cc)) (λ h. absurd (cc)) only.sink
+lock_ends readable law fit table lock of_lock over name bytes form out saved_only keys told old s new tells lies read there gives (load_starved is only kept stood given) = starved_replies table (with_saved_only saved_only (form_under table (Some over) out.form)) keys told old s new is only.sink
 
-plan_ends : TurnsAreReadable → SavesAreTurns → ReadKeysFit → (table : Table) (lock : Lock) (name : List ℕ) (form : Format) (out : KeysetFile) (keys : Keys) (told : Told) (old : World) (s : Status) (new : World) → Tells old told → (bytes : List ℕ) → map.get told.files name ≡ Some bytes → (master : Option Keys) → MasterThere lock told master → GivesKeyset table master form bytes keys
-    → Ends (session_plan table lock name form out) old s new → HasReplies table (form_under table master out.form) keys told old s new
-plan_ends readable law fit table None name form out keys told old s new tells bytes there None read gives run = text_ends readable law fit table None name bytes form out keys told old s new tells there gives run
-plan_ends readable law fit table None name form out keys told old s new tells bytes there (Some over) read gives run = absurd read
-plan_ends readable law fit table (Some lock) name form out keys told old s new tells bytes there None read gives run = absurd read
-plan_ends readable law fit table (Some lock) name form out keys told old s new tells bytes there (Some over) (of_lock, lies, read) gives run =
-    lock_ends readable law fit table lock of_lock over name bytes form out keys told old s new tells lies read there gives run
+plan_ends : TurnsAreReadable → SavesAreTurns → ReadKeysFit → (table : Table) (lock : Lock) (name : List ℕ) (form : Format) (out : KeysetFile) (saved_only : Bool) (keys : Keys) (told : Told) (old : World) (s : Status) (new : World) → Tells old told → (bytes : List ℕ) → map.get told.files name ≡ Some bytes → (master : Option Keys) → MasterThere lock told master → GivesKeyset table master form bytes keys
+    → Ends (session_plan table lock name form out saved_only) old s new → HasReplies table (with_saved_only saved_only (form_under table master out.form)) keys told old s new
+plan_ends readable law fit table None name form out saved_only keys told old s new tells bytes there None read gives run = text_ends readable law fit table None name bytes form out saved_only keys told old s new tells there gives run
+plan_ends readable law fit table None name form out saved_only keys told old s new tells bytes there (Some over) read gives run = absurd read
+plan_ends readable law fit table (Some lock) name form out saved_only keys told old s new tells bytes there None read gives run = absurd read
+plan_ends readable law fit table (Some lock) name form out saved_only keys told old s new tells bytes there (Some over) (of_lock, lies, read) gives run =
+    lock_ends readable law fit table lock of_lock over name bytes form out saved_only keys told old s new tells lies read there gives run
 
 pub readable_ends : TurnsAreReadable → SavesAreTurns → ReadKeysFit → SessionsAreReadable
 readable_ends readable law fit table words old s new (inl run) = record {
-  replies = λ told lock name form out keys tells is gives.
-      plan_ends readable law fit table lock name form out keys told old s new tells gives.bytes gives.there gives.master gives.read gives.gives (subst (λ p. Ends p old s new) (ap (λ r. asked_plan table r words) is) run);
+  replies = λ told lock name form out saved_only keys tells is gives.
+      plan_ends readable law fit table lock name form out saved_only keys told old s new tells gives.bytes gives.there gives.master gives.read gives.gives (subst (λ p. Ends p old s new) (ap (λ r. asked_plan table r words) is) run);
 }
 readable_ends readable law fit table words old s new (inr (is, same)) = record {
-  replies = λ told lock name form out keys tells asked gives. starved_replies table (form_under table gives.master out.form) keys told old s new is (ap (λ (w : World). w.sink) same);
+  replies = λ told lock name form out saved_only keys tells asked gives. starved_replies table (with_saved_only saved_only (form_under table gives.master out.form)) keys told old s new is (ap (λ (w : World). w.sink) same);
 }

@@ -15,6 +15,7 @@ use Rattle.tinkey_session.specs.Lines.{Line, Outcome, Save}
 use Rattle.tinkey_session.specs.Saving.{Agrees, AsksFor, FileAsked, Form, StoreAnswers, by_files, failed, file_asked, files_after, files_of, made, resolved, there, why_of, why_taken, written_by}
 use Rattle.tinkey_session.specs.Serving.{Served, serve}
 use Rattle.tinkey_session.specs.Session.{Remains, lines_by, lines_then, remains}
+use Rattle.tinkey_session.specs.Talking.{unsaved_after}
 use Rattle.tinkey_session.specs.declared.reply.LineRefusal.{LineRefusal}
 use Rattle.tinkey_plans.specs.Promises.{AsksOver, over_files}
 use Rattle.seal_wrap.specs.Wrapped.{Wrapped, wrap_of}
@@ -124,40 +125,40 @@ asks_so files before (a ∷ asked) agrees =
 -- ---- the files that lines ask for
 
 -- a line asks for the file that the store answers
-agrees_save : (form : Form) (answers : StoreAnswers) (before : List FileAsked) (keys : Keys) (random : List ℕ) (name : List ℕ) (outcome : Outcome) (later : List FileAsked)
-    → Agrees answers (before ++ files_of (resolved form answers before keys random (Save name outcome))) later → Agrees answers before (files_of (resolved form answers before keys random (Save name outcome)) ++ later)
-agrees_save form answers before keys random name outcome later agrees = by (written_by form keys random) agrees
+agrees_save : (form : Form) (answers : StoreAnswers) (before : List FileAsked) (unsaved : Bool) (keys : Keys) (random : List ℕ) (name : List ℕ) (outcome : Outcome) (later : List FileAsked)
+    → Agrees answers (before ++ files_of (resolved form answers before unsaved keys random (Save name outcome))) later → Agrees answers before (files_of (resolved form answers before unsaved keys random (Save name outcome)) ++ later)
+agrees_save form answers before unsaved keys random name outcome later agrees = by (written_by form keys random) agrees
   where
     by : (w : Result (List ℕ) LineRefusal) → Agrees answers (before ++ file_asked name (why_of (answers before name) w) (result_ok w)) later → Agrees answers before (file_asked name (why_of (answers before name) w) (result_ok w) ++ later)
     by (Ok bytes) agrees = (refl, agrees)
     by (Err why) agrees = subst (λ l. Agrees answers l later) (append-nil before) agrees
 
-agrees_line : (form : Form) (answers : StoreAnswers) (before : List FileAsked) (keys : Keys) (random : List ℕ) (line : Line) (later : List FileAsked)
-    → Agrees answers (before ++ files_of (resolved form answers before keys random line)) later → Agrees answers before (files_of (resolved form answers before keys random line) ++ later)
-agrees_line form answers before keys random line later = elim (saves_or_not line) [
-  | inl save ↦ subst (λ l. Agrees answers (before ++ files_of (resolved form answers before keys random l)) later → Agrees answers before (files_of (resolved form answers before keys random l) ++ later)) (sym save.2) (agrees_save form answers before keys random save.0 save.1 later)
-  | inr stays ↦ subst (λ files. Agrees answers (before ++ files) later → Agrees answers before (files ++ later)) (sym (ap files_of (stays.same form answers before keys random) ∙ stays.none)) (λ agrees. subst (λ l. Agrees answers l later) (append-nil before) agrees)
+agrees_line : (form : Form) (answers : StoreAnswers) (before : List FileAsked) (unsaved : Bool) (keys : Keys) (random : List ℕ) (line : Line) (later : List FileAsked)
+    → Agrees answers (before ++ files_of (resolved form answers before unsaved keys random line)) later → Agrees answers before (files_of (resolved form answers before unsaved keys random line) ++ later)
+agrees_line form answers before unsaved keys random line later = elim (saves_or_not line) [
+  | inl save ↦ subst (λ l. Agrees answers (before ++ files_of (resolved form answers before unsaved keys random l)) later → Agrees answers before (files_of (resolved form answers before unsaved keys random l) ++ later)) (sym save.2) (agrees_save form answers before unsaved keys random save.0 save.1 later)
+  | inr other ↦ subst (λ files. Agrees answers (before ++ files) later → Agrees answers before (files ++ later)) (sym (other.none form answers before unsaved keys random)) (λ agrees. subst (λ l. Agrees answers l later) (append-nil before) agrees)
 ]
 
 -- so do lines that are all answered
-pub agrees_lines : (table : Table) (form : Form) (answers : StoreAnswers) (before : List FileAsked) (keys : Keys) (lines : List Line) (random : List ℕ) (last : Remains)
-    → remains table keys (lines_by table (resolved form answers) before keys lines random) random ≡ Some last
-    → Agrees answers before (flat_map files_of (lines_by table (resolved form answers) before keys lines random))
+pub agrees_lines : (table : Table) (form : Form) (answers : StoreAnswers) (before : List FileAsked) (unsaved : Bool) (keys : Keys) (lines : List Line) (random : List ℕ) (last : Remains)
+    → remains table keys (lines_by table (resolved form answers) before unsaved keys lines random) random ≡ Some last
+    → Agrees answers before (flat_map files_of (lines_by table (resolved form answers) before unsaved keys lines random))
 unfolding remains lines_by
-agrees_lines table form answers before keys [] random last e = tt
-agrees_lines table form answers before keys (line ∷ later) random last e = by (λ y k. agrees_lines table form answers (before ++ files_of l) y.keys later y.left last k) (serve table keys l random) refl e
+agrees_lines table form answers before unsaved keys [] random last e = tt
+agrees_lines table form answers before unsaved keys (line ∷ later) random last e = by (λ y k. agrees_lines table form answers (before ++ files_of l) (unsaved_after unsaved l y.reply) y.keys later y.left last k) (serve table keys l random) refl e
   where
     l : Line
-    l = resolved form answers before keys random line
+    l = resolved form answers before unsaved keys random line
 
     over : Served → List Line
-    over y = lines_by table (resolved form answers) (before ++ files_of l) y.keys later y.left
+    over y = lines_by table (resolved form answers) (before ++ files_of l) (unsaved_after unsaved l y.reply) y.keys later y.left
 
     by : ((y : Served) → remains table y.keys (over y) y.left ≡ Some last → Agrees answers (before ++ files_of l) (flat_map files_of (over y)))
         → (o : Option Served) → serve table keys l random ≡ o → option_and_then (λ y. remains table y.keys (lines_then later o over) y.left) o ≡ Some last
         → Agrees answers before (flat_map files_of (l ∷ lines_then later o over))
     by behind None t k = clash k
-    by behind (Some s) t k = subst (Agrees answers before) (sym (flat_map-cons files_of l (over s))) (agrees_line form answers before keys random line (flat_map files_of (over s)) (behind s k))
+    by behind (Some s) t k = subst (Agrees answers before) (sym (flat_map-cons files_of l (over s))) (agrees_line form answers before unsaved keys random line (flat_map files_of (over s)) (behind s k))
 
 -- ---- what comes after a session
 

@@ -1,5 +1,5 @@
 -- A key that is ENABLED and alone under its prefix stays so, over the runs that spare it.
-use Rattle.std.proofs.Common.{◌≡◌, ◌⊎◌, ◌∙◌, inl, inr, refl, sym, ap, subst, ℕ, suc, List, [], ◌∷◌, ◌++◌, Option, Some, None, option_map, ◌<◌}
+use Rattle.std.proofs.Common.{◌≡◌, ◌⊎◌, ◌∙◌, inl, inr, refl, sym, ap, subst, ℕ, suc, Bool, List, [], ◌∷◌, ◌++◌, Option, Some, None, option_map, ◌<◌}
 use Rattle.std.specs.Prelude.{IfSome, slice_get}
 use Rattle.std.specs.FinMap as map
 use Rattle.std.specs.List.{AllByRecursion}
@@ -51,14 +51,14 @@ use Rattle.tinkey_words.specs.Words.{Asked, AskedEdit, Lock, KeysetFile, create_
 -- what the edit of a run leaves has this, and what its session does
 record EachDone (P : Keys → Type 0) (table : Table) (told : Told) (old : Keys) (asked : Asked) : Type 0 where
   by_edit : (lock : Lock) (edit : AskedEdit) (in' out : KeysetFile) → asked ≡ edit_keyset lock edit in' out → (e : Edit) → Follows edit e → (s : Stepped) → step old e told.random ≡ Some s → P (kept old s.answer)
-  by_session : (lock : Lock) (name : List ℕ) (form : Format) (out : KeysetFile) → asked ≡ session lock name form out → (m : Remains) → remains table old (told_lines table (master_told lock told) out.form old told) told.random ≡ Some m → P m.keys
+  by_session : (lock : Lock) (name : List ℕ) (form : Format) (out : KeysetFile) (saved_only : Bool) → asked ≡ session lock name form out saved_only → (m : Remains) → remains table old (told_lines table (master_told lock told) out.form saved_only old told) told.random ≡ Some m → P m.keys
 
 -- any other run that hands a keyset on leaves it
 run_keeps : (P : Keys → Type 0) (table : Table) (told : Told) (asked : Asked) (old new : Keys) → P old → EachDone P table told old asked → Does table told old new asked → P new
 run_keeps P table told (edit_keyset lock edit in' out) old new p each does =
     subst (λ a. P (kept old a)) does.accepted (each.by_edit lock edit in' out refl does.edit (named_follows edit does.edit does.is) does.stepped does.steps)
 run_keeps P table told (convert_keyset lock how in' out) old new p each does = subst P does p
-run_keeps P table told (session lock name form out) old new p each does = subst P does.2 (each.by_session lock name form out refl does.0 does.1)
+run_keeps P table told (session lock name form out saved_only) old new p each does = subst P does.2 (each.by_session lock name form out saved_only refl does.0 does.1)
 run_keeps P table told (create_keyset lock template out) old new p each does = absurd does
 run_keeps P table told (list_keyset lock in') old new p each does = absurd does
 run_keeps P table told (key_of lock name form kind ad) old new p each does = absurd does
@@ -74,13 +74,13 @@ run_keeps P table told version old new p each does = absurd does
 key_done : (table : Table) (r : Record) (prefix : List ℕ) → HasWordId r → prefix_of r ≡ Some prefix → (told : Told) (old : Keys) (asked : Asked) → HasSameKey r old → OfAsked (SparesKey r) old told asked → EachDone (HasSameKey r) standard_table told old asked
 key_done table r prefix word has told old asked key spares = record {
   by_edit = λ lock edit in' out is e follows s steps. kept_by_edits old r prefix e told.random s word has key steps (if_ok s.answer (follows_key r old edit e follows (subst (OfAsked (SparesKey r) old told) is spares)));
-  by_session = λ lock name form out is m. kept_by_session standard_table old r prefix (told_lines standard_table (master_told lock told) out.form old told) told.random m word has key (subst (OfAsked (SparesKey r) old told) is spares);
+  by_session = λ lock name form out saved_only is m. kept_by_session standard_table old r prefix (told_lines standard_table (master_told lock told) out.form saved_only old told) told.random m word has key (subst (OfAsked (SparesKey r) old told) is spares);
 }
 
 distinct_done : (told : Told) (old : Keys) (asked : Asked) → HasDistinctIds old → EachDone HasDistinctIds standard_table told old asked
 distinct_done told old asked apart = record {
   by_edit = λ lock edit in' out is e follows s. ids_stay_distinct old e told.random s apart;
-  by_session = λ lock name form out is m. session_ids_stay_distinct standard_table old (told_lines standard_table (master_told lock told) out.form old told) told.random m apart;
+  by_session = λ lock name form out saved_only is m. session_ids_stay_distinct standard_table old (told_lines standard_table (master_told lock told) out.form saved_only old told) told.random m apart;
 }
 
 -- the key is alone, and ids are distinct
@@ -90,7 +90,7 @@ IsAlone r keys = HasDistinctIds keys × HasSameKey r keys
 alone_done : (r : Record) (prefix : List ℕ) → prefix_of r ≡ Some prefix → (told : Told) (old : Keys) (asked : Asked) → IsHeld r old → OfAsked (λ keys. Spares r.id) old told asked → EachDone (IsAlone r) standard_table told old asked
 alone_done r prefix has told old asked held spares = record {
   by_edit = λ lock edit in' out is e follows s steps. of_held (held_by_edit old r prefix e told.random s has held steps (if_ok s.answer (follows.spares r.id (subst (OfAsked (λ keys. Spares r.id) old told) is spares))));
-  by_session = λ lock name form out is m left. of_held (held_by_session standard_table old r prefix (told_lines standard_table (master_told lock told) out.form old told) told.random m has held (subst (OfAsked (λ keys. Spares r.id) old told) is spares) left);
+  by_session = λ lock name form out saved_only is m left. of_held (held_by_session standard_table old r prefix (told_lines standard_table (master_told lock told) out.form saved_only old told) told.random m has held (subst (OfAsked (λ keys. Spares r.id) old told) is spares) left);
 }
   where
     of_held : {keys : Keys} → IsHeld r keys → IsAlone r keys
@@ -99,7 +99,7 @@ alone_done r prefix has told old asked held spares = record {
 data_done : (r : Record) (told : Told) (old : Keys) (asked : Asked) → HasData r old → OfAsked (λ keys. SparesData r.id) old told asked → EachDone (HasData r) standard_table told old asked
 data_done r told old asked h spares = record {
   by_edit = λ lock edit in' out is e follows s steps. data_stays old r e told.random s h steps (if_ok s.answer (follows.data' r.id (subst (OfAsked (λ keys. SparesData r.id) old told) is spares)));
-  by_session = λ lock name form out is m. session_data_stays standard_table old r (told_lines standard_table (master_told lock told) out.form old told) told.random m h (subst (OfAsked (λ keys. SparesData r.id) old told) is spares);
+  by_session = λ lock name form out saved_only is m. session_data_stays standard_table old r (told_lines standard_table (master_told lock told) out.form saved_only old told) told.random m h (subst (OfAsked (λ keys. SparesData r.id) old told) is spares);
 }
 
 -- ---- a run as it took place
@@ -316,7 +316,7 @@ all_done r told old asked h spares =
     let data' = data_done r told old asked h.1 spares in
     record {
       by_edit = λ lock edit in' out is e follows s steps. (ids.by_edit lock edit in' out is e follows s steps, data'.by_edit lock edit in' out is e follows s steps);
-      by_session = λ lock name form out is m left. (ids.by_session lock name form out is m left, data'.by_session lock name form out is m left);
+      by_session = λ lock name form out saved_only is m left. (ids.by_session lock name form out saved_only is m left, data'.by_session lock name form out saved_only is m left);
     }
 
 creates_of : (run : Run) (template : List ℕ) (master text : Written) → CreatesFirst run template master text → CreatesUnder standard_table run template master text

@@ -33,6 +33,7 @@ pub mod ResealedStreamLemmas
 pub mod RunLemmas
 pub mod SavedFormLemmas
 pub mod SavedLineLemmas
+pub mod SavedReplyLemmas
 pub mod SessionLineLemmas
 pub mod ReadBytesLemmas
 pub mod ReadIdLemmas

@@ -1,6 +1,6 @@
 -- What was made by runs and lines among runs that hand a keyset on, and is read by later ones: cases of what
 -- is read over any keyset that has the key.
-use Rattle.std.proofs.Common.{◌≡◌, ◌∙◌, sym, refl, ap, subst, ℕ, ◌≤◌, List, [], length, Some, None, option_map}
+use Rattle.std.proofs.Common.{◌≡◌, ◌∙◌, sym, refl, ap, subst, ℕ, ◌≤◌, false, List, [], length, Some, None, option_map}
 use Rattle.std.proofs.lemmas.Option.{same_Some}
 use Rattle.std.specs.List.{flat_map}
 use Rattle.key_msgs.specs.declared.primitive.Primitive.{Primitive}
@@ -12,7 +12,7 @@ use Rattle.tinkey_session.proofs.TurnLemmas.{edited_on, reached}
 use Rattle.tinkey_session.specs.Laws.{IsEdited, SoundIsUsable}
 use Rattle.tinkey_session.specs.Reading.{IsWithin}
 use Rattle.tinkey_session.specs.Serving.{Served, sealed_reply, serve}
-use Rattle.tinkey_session.specs.Saving.{by_files, files_of}
+use Rattle.tinkey_session.specs.Saving.{by_files, files_of, with_saved_only}
 use Rattle.tinkey_session.specs.Session.{asked_in, lines_of}
 use Rattle.tinkey_session.specs.TalkLaws.{SavesAreTurns}
 use Rattle.tinkey_session.specs.Talking.{line_limit}
@@ -37,12 +37,12 @@ use Rattle.tinkey_words.specs.Words.{AskedWork, primitive_for, to_dopen, to_dsea
 -- it was made so, over whichever keyset
 made_by : SavesAreTurns → (work : AskedWork) (input output : List ℕ) (r : Record) (after : Written) → WasMade work input output r after → WasMadeBy work input output r
 made_by talks work input output r after (by_run runs before old lead told was same primary) = anywhere.by_run before old lead.read told was same primary
-made_by talks work input output r after (by_line run runs before old lead name form out is place t there line reply primary) =
-    let saves = form_under standard_table None out.form in
+made_by talks work input output r after (by_line run runs before old lead name form out saved_only is place t there line reply primary) =
+    let saves = with_saved_only saved_only (form_under standard_table None out.form) in
     let answers = by_files run.told.files in
-    let short = lines_short talks standard_table run before lead.are.0 old name form out is lead.are.1 lead.read in
-    let at = line_there standard_table saves answers [] old (asked_in run.told.input) run.told.random place t there in
-    let read = work_read saves answers (flat_map files_of at.front) t.before at.left at.line work input (sym at.is ∙ line) in
+    let short = lines_short talks standard_table run before lead.are.0 old name form out saved_only is lead.are.1 lead.read in
+    let at = line_there standard_table saves answers [] false old (asked_in run.told.input) run.told.random place t there in
+    let read = work_read saves answers (flat_map files_of at.front) at.unsaved' t.before at.left at.line work input (sym at.is ∙ line) in
     let spelled = line_at (lines_of run.told.input) place at.line short at.at in
     anywhere.by_line before run.told t (record { keys = old; read = lead.read; form = saves; answers = answers; place = place; there = there })
     (input_fits work input (subst (IsWithin line_limit) read spelled)) line reply primary
@@ -72,14 +72,14 @@ origin l work input output r after of_line (by_run runs before old lead told was
       keyset = read_keyset l.fit before.form before.bytes old within lead.read;
       fit = (started work before old told output lead.read was).fit;
     }
-origin l work input output r after of_line (by_line run runs before old lead name form out is place t there line reply primary) =
+origin l work input output r after of_line (by_line run runs before old lead name form out saved_only is place t there line reply primary) =
     let between = lead.are.0 in
     let hands = lead.are.1 in
     let step' = l.run standard_table run before between old hands lead.bytes.0 lead.holds lead.read in
     let d = led l.run l.wrap l.sessions runs between after step'.new lead.are.2 lead.bytes.1 step'.holds step'.read step'.within in
-    let lines = told_lines standard_table None out.form old run.told in
+    let lines = told_lines standard_table None out.form saved_only old run.told in
     let at = reached standard_table lines old run.told.random place t there in
-    let does = session_does standard_table run.told old step'.new run.asked name form out is step'.does in
+    let does = session_does standard_table run.told old step'.new run.asked name form out saved_only is step'.does in
     let on = turn_on standard_table lines old run.told.random place t does.0 there does.1 in
     let behind = subst (λ k. IsEdited t.before k) does.2 (l.sessions standard_table t.before on.0 on.1 does.0 on.2) in
     record {

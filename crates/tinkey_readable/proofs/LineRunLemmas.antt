@@ -1,5 +1,5 @@
 -- What runs and lines made, read by later runs and lines.
-use Rattle.std.proofs.Common.{arith, ◌≡◌, ◌∙◌, inl, inr, sym, refl, ap, subst, ℕ, zero, suc, ◌≤◌, true, List, [], ◌∷◌, length, map as each, Option, Some, None, Result, Ok}
+use Rattle.std.proofs.Common.{arith, ◌≡◌, ◌∙◌, inl, inr, sym, refl, ap, subst, ℕ, zero, suc, ◌≤◌, Bool, true, List, [], ◌∷◌, length, map as each, Option, Some, None, Result, Ok}
 use Rattle.std.specs.Prelude.{slice_get}
 use Rattle.std.specs.FinMap as map
 use Rattle.std.specs.List.{AllByRecursion}
@@ -88,9 +88,9 @@ turn_on table (line ∷ later) keys random (suc i) t m at e = elim (serve table 
     ] at e
 
 -- what a session does
-pub session_does : (table : Table) (told : Told) (old new : Keys) (asked : Asked) (name : List ℕ) (form : Format) (out : KeysetFile) → asked ≡ session None name form out → Does table told old new asked
-    → (m : Remains) × (remains table old (told_lines table None out.form old told) told.random ≡ Some m) × (m.keys ≡ new)
-session_does table told old new asked name form out is does = subst (λ a. Does table told old new a) is does
+pub session_does : (table : Table) (told : Told) (old new : Keys) (asked : Asked) (name : List ℕ) (form : Format) (out : KeysetFile) (saved_only : Bool) → asked ≡ session None name form out saved_only → Does table told old new asked
+    → (m : Remains) × (remains table old (told_lines table None out.form saved_only old told) told.random ≡ Some m) × (m.keys ≡ new)
+session_does table told old new asked name form out saved_only is does = subst (λ a. Does table told old new a) is does
 
 -- ---- the lines of a session that was Done
 
@@ -98,22 +98,22 @@ abbrev AreShort : List (List ℕ) → Type 0
 AreShort lines = AllByRecursion (λ line. length line ≤ line_limit) lines
 
 -- they are within the limit of a line, since the session went to its end
-named_short : SavesAreTurns → (table : Table) (name : List ℕ) (form : Format) (out : KeysetFile) (file : Option (List ℕ)) (told : Told) (before : Written) (old : Keys) (h : Handing) → session_handing name form out file ≡ Some h
-    → IsDoneAnswer (answer (command_plan table (session None name form out)) told) → h.taken.form ≡ before.form → bytes_at h.taken.file told.files told.input ≡ Some before.bytes → keyset_of before ≡ Some old → AreShort (lines_of told.input)
-named_short law table name form out None told before old h e done form_is read is = clash e
-named_short law table name form out (Some file) told before old h e done form_is read is =
+named_short : SavesAreTurns → (table : Table) (name : List ℕ) (form : Format) (out : KeysetFile) (saved_only : Bool) (file : Option (List ℕ)) (told : Told) (before : Written) (old : Keys) (h : Handing) → session_handing name form out file ≡ Some h
+    → IsDoneAnswer (answer (command_plan table (session None name form out saved_only)) told) → h.taken.form ≡ before.form → bytes_at h.taken.file told.files told.input ≡ Some before.bytes → keyset_of before ≡ Some old → AreShort (lines_of told.input)
+named_short law table name form out saved_only None told before old h e done form_is read is = clash e
+named_short law table name form out saved_only (Some file) told before old h e done form_is read is =
     let same = same_Some _ _ e in
     let form_same : form ≡ before.form = ap (λ (x : Handing). x.taken.form) same ∙ form_is in
     let there : map.get told.files name ≡ Some before.bytes = ap (λ (x : Handing). bytes_at x.taken.file told.files told.input) same ∙ read in
-    let l = load_done origins.Keyset name form before.bytes old (holds_session table None out) told there (ap (λ x. read_in x before.bytes) form_same ∙ is) done in
-    let whole : IsDoneAnswer (answer (holds_session table None out old) told) = ap (λ (a : Answer). a.status) (sym l) ∙ done in
-    let free = free_done out.file (λ free. exchanges (saving_session table None out.form old) (saves table None out)) told whole in
-    (talk_done law table None out old told (ap (λ (a : Answer). a.status) (sym free) ∙ whole)).short
+    let l = load_done origins.Keyset name form before.bytes old (holds_session table None out saved_only) told there (ap (λ x. read_in x before.bytes) form_same ∙ is) done in
+    let whole : IsDoneAnswer (answer (holds_session table None out saved_only old) told) = ap (λ (a : Answer). a.status) (sym l) ∙ done in
+    let free = free_done out.file (λ free. exchanges (saving_session table None out.form saved_only old) (saves table None out)) told whole in
+    (talk_done law table None out saved_only old told (ap (λ (a : Answer). a.status) (sym free) ∙ whole)).short
 
-pub lines_short : SavesAreTurns → (table : Table) (run : Run) (before after : Written) (old : Keys) (name : List ℕ) (form : Format) (out : KeysetFile) → run.asked ≡ session None name form out → HandsOn table run before after → keyset_of before ≡ Some old → AreShort (lines_of run.told.input)
-lines_short law table run before after old name form out is hands read =
+pub lines_short : SavesAreTurns → (table : Table) (run : Run) (before after : Written) (old : Keys) (name : List ℕ) (form : Format) (out : KeysetFile) (saved_only : Bool) → run.asked ≡ session None name form out saved_only → HandsOn table run before after → keyset_of before ≡ Some old → AreShort (lines_of run.told.input)
+lines_short law table run before after old name form out saved_only is hands read =
     let d = hands.handed in
-    named_short law table name form out out.file run.told before old hands.handing (ap hands_on (sym is) ∙ hands.hands)
+    named_short law table name form out saved_only out.file run.told before old hands.handing (ap hands_on (sym is) ∙ hands.hands)
     (ap (λ a. (answer (command_plan table a) run.told).status) (sym is) ∙ d.done) d.read_form d.read read
 
 abbrev none_wrong : Line → Result Line (Unit {0})

@@ -28,7 +28,7 @@ use Rattle.tink_base.specs.Hash.{hash_size}
 use Rattle.tink_base.specs.declared.hash.Hash.{Hash}
 use Rattle.tink_base.specs.declared.hash.Hash.TheVariants.{Sha1}
 use Rattle.tinkey_session.specs.Lines.{line_of}
-use Rattle.tinkey_session.specs.Saving.{files_after}
+use Rattle.tinkey_session.specs.Saving.{files_after, with_saved_only}
 use Rattle.tinkey_session.specs.TalkLaws.{SavesAreTurns}
 use Rattle.tinkey_session.specs.Talking.{goes}
 use Rattle.wrapped_prims.specs.Answers.{Sealed, seal_answer, seal_behind, seal_under}
@@ -132,8 +132,8 @@ locked_runs_put hides table _ told put e done = clash e
 
 -- so does each of its lines
 pub locked_lines_save : TextHidesKeys → SavesAreTurns → LockedLinesSave
-locked_lines_save hides law table over keys form answers taken random ended a there =
-    let saves = form_under table (Some over) form in
+locked_lines_save hides law table over keys form saved_only answers taken random ended a there =
+    let saves = with_saved_only saved_only (form_under table (Some over) form) in
     let t = law table saves answers keys taken random ended in
     let w = asked_written table saves answers keys (each line_of t.answered) random t.last _ a t.remains' t.asked there in
     let u = written_under table over form w.saved w.iv a.bytes w.is in
@@ -151,22 +151,22 @@ last_saved hides table over (Some name) form keys left free fits =
     (ap (λ (a : Answer). a.output) e ∙ alone.0, (text, shows hides table over keys form left.random fits.wrapped fits.made, ap (λ (a : Answer). a.files) e ∙ alone.1))
 
 -- what a session that is Done leaves, under its master
-record LockedEnd (table : Table) (lock : Master) (name : List ℕ) (form : Format) (out : KeysetFile) (told : Told) (a : Answer) : Type 0 where
+record LockedEnd (table : Table) (lock : Master) (name : List ℕ) (form : Format) (out : KeysetFile) (saved_only : Bool) (told : Told) (a : Answer) : Type 0 where
   over : Keys
   old : Keys
   opens : OpensMaster table lock told over
   lies : LiesBehind table (Some lock) (record { file = Some name; form = form }) told old
-  output : a.output ≡ (told_session table (Some over) out.form old told).output
-  files : let x = told_session table (Some over) out.form old told in SavesLast table over x.keys out.file out.form (files_after told.files x.asked) a.files
+  output : a.output ≡ (told_session table (Some over) out.form saved_only old told).output
+  files : let x = told_session table (Some over) out.form saved_only old told in SavesLast table over x.keys out.file out.form (files_after told.files x.asked) a.files
 
-locked_end : TextHidesKeys → (table : Table) (lock : Master) (name : List ℕ) (form : Format) (out : KeysetFile) (told : Told) (master : Option Keys) (keys : Keys) (a : Answer)
+locked_end : TextHidesKeys → (table : Table) (lock : Master) (name : List ℕ) (form : Format) (out : KeysetFile) (saved_only : Bool) (told : Told) (master : Option Keys) (keys : Keys) (a : Answer)
     → OpensLock table (Some lock) told master → LiesThere table master (record { file = Some name; form = form }) told keys
-    → IsFree out.file (files_after told.files (told_session table master out.form keys told).asked)
-    → IsSavedWithin table master out.file out.form (told_session table master out.form keys told).keys (told_session table master out.form keys told).random
-    → a ≡ stands table master keys out told goes → LockedEnd table lock name form out told a
-locked_end hides table lock name form out told None keys a opens lies free fits is = absurd opens
-locked_end hides table lock name form out told (Some over) keys a opens lies free fits is =
-    let x = told_session table (Some over) out.form keys told in
+    → IsFree out.file (files_after told.files (told_session table master out.form saved_only keys told).asked)
+    → IsSavedWithin table master out.file out.form (told_session table master out.form saved_only keys told).keys (told_session table master out.form saved_only keys told).random
+    → a ≡ stands table master keys out saved_only told goes → LockedEnd table lock name form out saved_only told a
+locked_end hides table lock name form out saved_only told None keys a opens lies free fits is = absurd opens
+locked_end hides table lock name form out saved_only told (Some over) keys a opens lies free fits is =
+    let x = told_session table (Some over) out.form saved_only keys told in
     let files = files_after told.files x.asked in
     let left : Told = record { input = []; files = files; random = x.random } in
     let p = last_saved hides table over out.file out.form x.keys left free fits in
@@ -180,9 +180,9 @@ locked_end hides table lock name form out told (Some over) keys a opens lies fre
     }
 
 pub locked_sessions_save : TextHidesKeys → LockedSessionsSave
-locked_sessions_save hides table lock name form out told done =
-    let x = session_is table (Some lock) name form out told done in
-    let e = locked_end hides table lock name form out told x.master x.keys _ x.opens x.lies x.free x.saved (session_answers table (Some lock) name form out told x) in
+locked_sessions_save hides table lock name form out saved_only told done =
+    let x = session_is table (Some lock) name form out saved_only told done in
+    let e = locked_end hides table lock name form out saved_only told x.master x.keys _ x.opens x.lies x.free x.saved (session_answers table (Some lock) name form out saved_only told x) in
     (e.over, e.old, e.opens, e.lies, (e.output, e.files))
 
 -- ---- keysets that differ in keys alone

@@ -1,5 +1,5 @@
 -- Runs that take a keyset on under masters.
-use Rattle.std.proofs.Common.{◌≡◌, ◌∙◌, sym, refl, ap, subst, ℕ, ◌≤◌, List, [], ◌∷◌, ◌++◌, length, Option, Some, None, Result, Ok}
+use Rattle.std.proofs.Common.{◌≡◌, ◌∙◌, sym, refl, ap, subst, ℕ, ◌≤◌, Bool, List, [], ◌∷◌, ◌++◌, length, Option, Some, None, Result, Ok}
 use Rattle.std.specs.Prelude.{option_and_then}
 use Rattle.std.specs.FinMap as map
 use Rattle.std.specs.List.{AllByRecursion}
@@ -260,37 +260,37 @@ saved_under over form keys told file done =
 pub master_is : (lock : Master) (told : Told) (master : Written) (over : Keys) → lock.form ≡ master.form → map.get told.files lock.file ≡ Some master.bytes → keyset_of master ≡ Some over → master_told (Some lock) told ≡ Some over
 master_is lock told master over form lies read = ap (option_and_then (read_in lock.form)) lies ∙ ap (λ x. read_in x master.bytes) form ∙ read
 
-session_step : StepLaws → (lock : Master) (name : List ℕ) (form of_out : Format) (file : List ℕ) (told : Told) (master text put after : Written) (over old : Keys)
-    → Went (session (Some lock) name form (record { file = Some file; form = of_out })) told master text put after over old (same_handing lock (record { file = Some name; form = form }) (record { file = Some file; form = of_out }))
-    → StepUnder (session (Some lock) name form (record { file = Some file; form = of_out })) told old put after
-session_step l lock name form of_out file told master text put after over old w =
+session_step : StepLaws → (lock : Master) (name : List ℕ) (form of_out : Format) (saved_only : Bool) (file : List ℕ) (told : Told) (master text put after : Written) (over old : Keys)
+    → Went (session (Some lock) name form (record { file = Some file; form = of_out }) saved_only) told master text put after over old (same_handing lock (record { file = Some name; form = form }) (record { file = Some file; form = of_out }))
+    → StepUnder (session (Some lock) name form (record { file = Some file; form = of_out }) saved_only) told old put after
+session_step l lock name form of_out saved_only file told master text put after over old w =
     let in' : KeysetFile = record { file = Some name; form = form } in
     let out : KeysetFile = record { file = Some file; form = of_out } in
-    let holds : Option Keys → Plan = λ m. takes_under origins.Keyset standard_table m in' (holds_session standard_table m out) in
+    let holds : Option Keys → Plan = λ m. takes_under origins.Keyset standard_table m in' (holds_session standard_table m out saved_only) in
     let o = lock_done origins.Master standard_table lock.file lock.form master.bytes over holds told w.lies (ap (λ x. read_in x master.bytes) w.form ∙ w.read) w.done in
     let d1 : IsDoneAnswer (answer (holds (Some over)) told) = ap (λ (a : Answer). a.status) (sym o.goes_on) ∙ w.done in
-    let t = under_done origins.Keyset over in' text.bytes old (holds_session standard_table (Some over) out) told w.taken (ap (λ x. unwrap_of over standard_table text.bytes (is_json x)) w.taken_form ∙ w.gives) d1 in
-    let d2 : IsDoneAnswer (answer (holds_session standard_table (Some over) out old) told) = ap (λ (a : Answer). a.status) (sym t) ∙ d1 in
-    let free = free_done out.file (λ free. exchanges (saving_session standard_table (Some over) of_out old) (saves standard_table (Some over) out)) told d2 in
-    let d = talk_done l.turns standard_table (Some over) out old told (ap (λ (a : Answer). a.status) (sym free) ∙ d2) in
+    let t = under_done origins.Keyset over in' text.bytes old (holds_session standard_table (Some over) out saved_only) told w.taken (ap (λ x. unwrap_of over standard_table text.bytes (is_json x)) w.taken_form ∙ w.gives) d1 in
+    let d2 : IsDoneAnswer (answer (holds_session standard_table (Some over) out saved_only old) told) = ap (λ (a : Answer). a.status) (sym t) ∙ d1 in
+    let free = free_done out.file (λ free. exchanges (saving_session standard_table (Some over) of_out saved_only old) (saves standard_table (Some over) out)) told d2 in
+    let d = talk_done l.turns standard_table (Some over) out saved_only old told (ap (λ (a : Answer). a.status) (sym free) ∙ d2) in
     let s = saved_under over of_out d.last.keys d.left file d.done in
     let keyset : IsKeyset old = record { faultless = w.faultless; words = each_of old.records (λ r x. x.held.id) w.stored } in
-    let lines = told_lines standard_table (Some over) of_out old told in
+    let lines = told_lines standard_table (Some over) of_out saved_only old told in
     let files = ap (λ (a : Answer). map.get a.files file) (o.goes_on ∙ t ∙ free) ∙ ap (λ f. map.get f file) d.goes_on ∙ s.there in
     let seal = sealed_so master after over d.last.keys out d.left s.put _ w.read o.within (subst AreBytes d.left_bytes (session_left standard_table old lines told.random d.last w.random d.is)) w.put_form w.put' files
     (l.edited old d.last.keys (l.sessions standard_table old lines told.random d.last d.is) keyset).faultless
     (l.keep_sessions standard_table old lines told.random d.last w.random w.stored d.is) in
-    let does = subst (λ m. remains standard_table old (told_lines standard_table m of_out old told) told.random ≡ Some d.last) (sym (master_is lock told master over w.form w.lies w.read)) d.is in
+    let does = subst (λ m. remains standard_table old (told_lines standard_table m of_out saved_only old told) told.random ≡ Some d.last) (sym (master_is lock told master over w.form w.lies w.read)) d.is in
     record { new = d.last.keys; does = (d.last, does, refl); seal = subst (λ x. UnderSeal x after d.last.keys) (one_master lock in' out master put w) seal }
 
-session_by_file : StepLaws → (lock : Master) (name : List ℕ) (form of_out : Format) (file : Option (List ℕ)) (told : Told) (master text put after : Written) (over old : Keys) (x : LockedHanding)
+session_by_file : StepLaws → (lock : Master) (name : List ℕ) (form of_out : Format) (saved_only : Bool) (file : Option (List ℕ)) (told : Told) (master text put after : Written) (over old : Keys) (x : LockedHanding)
     → session_under lock name form (record { file = file; form = of_out }) file ≡ Some x
-    → Went (session (Some lock) name form (record { file = file; form = of_out })) told master text put after over old x
-    → StepUnder (session (Some lock) name form (record { file = file; form = of_out })) told old put after
-session_by_file l lock name form of_out None told master text put after over old x e w = clash e
-session_by_file l lock name form of_out (Some file) told master text put after over old x e w =
-    session_step l lock name form of_out file told master text put after over old
-    (subst (λ h. Went (session (Some lock) name form (record { file = Some file; form = of_out })) told master text put after over old h) (sym (same_Some _ _ e)) w)
+    → Went (session (Some lock) name form (record { file = file; form = of_out }) saved_only) told master text put after over old x
+    → StepUnder (session (Some lock) name form (record { file = file; form = of_out }) saved_only) told old put after
+session_by_file l lock name form of_out saved_only None told master text put after over old x e w = clash e
+session_by_file l lock name form of_out saved_only (Some file) told master text put after over old x e w =
+    session_step l lock name form of_out saved_only file told master text put after over old
+    (subst (λ h. Went (session (Some lock) name form (record { file = Some file; form = of_out }) saved_only) told master text put after over old h) (sym (same_Some _ _ e)) w)
 
 step_by : StepLaws → (asked : Asked) (told : Told) (master text put after : Written) (over old : Keys) (x : LockedHanding) → hands_under asked ≡ Some x → Went asked told master text put after over old x → StepUnder asked told old put after
 step_by l (edit_keyset (Some lock) edit in' out) told master text put after over old x e w =
@@ -299,11 +299,11 @@ step_by l (convert_keyset (Some lock) as_taken in' out) told master text put aft
     convert_under lock in' out told master text put after over old (subst (λ h. Went (convert_keyset (Some lock) as_taken in' out) told master text put after over old h) (sym (same_Some _ _ e)) w)
 step_by l (convert_keyset (Some lock) (under new) in' out) told master text put after over old x e w =
     rewrap_under lock new in' out told master text put after over old (subst (λ h. Went (convert_keyset (Some lock) (under new) in' out) told master text put after over old h) (sym (same_Some _ _ e)) w)
-step_by l (session (Some lock) name form out) told master text put after over old x e w = session_by_file l lock name form out.form out.file told master text put after over old x e w
+step_by l (session (Some lock) name form out saved_only) told master text put after over old x e w = session_by_file l lock name form out.form saved_only out.file told master text put after over old x e w
 step_by l (edit_keyset None edit in' out) told master text put after over old x e w = clash e
 step_by l (convert_keyset None how in' out) told master text put after over old x e w = clash e
 step_by l (convert_keyset (Some lock) in_clear in' out) told master text put after over old x e w = clash e
-step_by l (session None name form out) told master text put after over old x e w = clash e
+step_by l (session None name form out saved_only) told master text put after over old x e w = clash e
 step_by l (create_keyset lock template out) told master text put after over old x e w = clash e
 step_by l (list_keyset lock in') told master text put after over old x e w = clash e
 step_by l (key_of lock name form kind ad) told master text put after over old x e w = clash e

@@ -18,7 +18,7 @@ use Rattle.tinkey_session.specs.SessionLaws.{HasTurns, SessionDopens, SessionDop
 use Rattle.tinkey_session.specs.TalkLaws.{IsTurnsOf, SavesAreTurns}
 use Rattle.tinkey_session.specs.declared.reply.Reply.TheVariants.{Done}
 use Rattle.tinkey_session.proofs.Options.{clash}
-use Rattle.tinkey_session.specs.Saving.{Agrees, Form, StoreAnswers, by_files, files_after, iv_drawn, resolved}
+use Rattle.tinkey_session.specs.Saving.{Agrees, Form, StoreAnswers, by_files, files_after, iv_drawn, resolved, with_saved_only}
 use Rattle.tinkey_session.specs.Talking.{Stop, goes, wants, passes, long_line, many_lines, Talk}
 use Rattle.wrapped_prims.specs.Fitness.{Unfit, unfit}
 use Rattle.wrapped_prims.specs.Laws.{IsKeyset}
@@ -116,12 +116,12 @@ saves_nothing table (Some over) (Some name) form keys told =
     within_nothing keyset_limit (λ plain. makes_wrapped keys over table form (makes_file name)) (written_in formats.Binary keys) told (text_nothing table over form keys name told)
 
 -- what the answer of the session itself says of the run
-talk_replied : SessionOpens → SessionDopens → SessionOpensPresent → SessionDopensPresent → SessionVerifies → SavesAreTurns → (table : Table) (master : Option Keys) (out : KeysetFile) (keys : Keys) (told : Told) (old : World) (s : Status) (new : World)
-    → IsKeyset keys → IsStated s → IsAnswer (answer (exchanges (saving_session table master out.form keys) (saves table master out)) told) old s new → HasReplies table (form_under table master out.form) keys told old s new
-talk_replied opens dopens opens_present dopens_present verifies law table master out keys told old s new is stated a = by_stop x.stop refl a
+talk_replied : SessionOpens → SessionDopens → SessionOpensPresent → SessionDopensPresent → SessionVerifies → SavesAreTurns → (table : Table) (master : Option Keys) (out : KeysetFile) (saved_only : Bool) (keys : Keys) (told : Told) (old : World) (s : Status) (new : World)
+    → IsKeyset keys → IsStated s → IsAnswer (answer (exchanges (saving_session table master out.form saved_only keys) (saves table master out)) told) old s new → HasReplies table (with_saved_only saved_only (form_under table master out.form)) keys told old s new
+talk_replied opens dopens opens_present dopens_present verifies law table master out saved_only keys told old s new is stated a = by_stop x.stop refl a
   where
     x : Talk
-    x = told_session table master out.form keys told
+    x = told_session table master out.form saved_only keys told
 
     made : Told
     made = record told { files = files_after told.files x.asked }
@@ -130,19 +130,19 @@ talk_replied opens dopens opens_present dopens_present verifies law table master
     next = answer (saves table master out x.keys) (record made { input = []; random = x.random })
 
     form : Form
-    form = form_under table master out.form
+    form = with_saved_only saved_only (form_under table master out.form)
 
     answers : StoreAnswers
     answers = by_files told.files
 
     is_saved : ((name bytes : List ℕ) → map.get made.files name ≡ Some bytes → Has new.store name bytes)
-        → (t : IsTurnsOf table (λ answered. lines_by table (resolved form answers) [] keys (each line_of answered) told.random) keys told.input told.random true x)
+        → (t : IsTurnsOf table (λ answered. lines_by table (resolved form answers) [] false keys (each line_of answered) told.random) keys told.input told.random true x)
         → (i : ℕ) (turn : Turn) (name : List ℕ) (outcome : Outcome) → slice_get (turns_of table form answers keys t.answered told.random) i ≡ Some turn → turn.line ≡ Save name outcome → turn.reply ≡ Done → IsSavedAs form turn.before new.store name
     is_saved on t i turn name outcome at line reply =
-        let there = line_there table form answers [] keys (each line_of t.answered) told.random i turn at in
+        let there = line_there table form answers [] false keys (each line_of t.answered) told.random i turn at in
         let w = saved_at table form answers keys (each line_of t.answered) told.random i turn name outcome there line reply in
         let a = made_file name w.bytes in
-        let agrees : Agrees answers [] (w.first ++ a ∷ w.later) = subst (Agrees answers []) w.split (agrees_lines table form answers [] keys (each line_of t.answered) told.random t.last t.remains') in
+        let agrees : Agrees answers [] (w.first ++ a ∷ w.later) = subst (Agrees answers []) w.split (agrees_lines table form answers [] false keys (each line_of t.answered) told.random t.last t.remains') in
         let kept = ap (λ l. map.get (files_after told.files l) name) (t.asked ∙ w.split) ∙ made_stays told.files w.first a w.later (agrees_later answers [] w.first (a ∷ w.later) agrees) refl in
         record {
           iv = take (iv_drawn form turn.before) w.left;
@@ -151,10 +151,10 @@ talk_replied opens dopens opens_present dopens_present verifies law table master
           has = on name w.bytes kept;
         }
 
-    told_so : ((name bytes : List ℕ) → map.get made.files name ≡ Some bytes → Has new.store name bytes) → (s ≡ status.Done → x.stop ≡ goes) → (output : List ℕ) → output ≡ x.output → Took old.sink new.sink output → HasReplies table (form_under table master out.form) keys told old s new
+    told_so : ((name bytes : List ℕ) → map.get made.files name ≡ Some bytes → Has new.store name bytes) → (s ≡ status.Done → x.stop ≡ goes) → (output : List ℕ) → output ≡ x.output → Took old.sink new.sink output → HasReplies table (with_saved_only saved_only (form_under table master out.form)) keys told old s new
     told_so on done output same took =
         let t = law table form answers keys told.input told.random true in
-        let agrees : Agrees answers [] x.asked = subst (Agrees answers []) (sym t.asked) (agrees_lines table form answers [] keys (each line_of t.answered) told.random t.last t.remains') in
+        let agrees : Agrees answers [] x.asked = subst (Agrees answers []) (sym t.asked) (agrees_lines table form answers [] false keys (each line_of t.answered) told.random t.last t.remains') in
         record {
           answers = answers;
           store = record { asked = x.asked; after = Some (files_after told.files x.asked); asks = asks_so told.files [] x.asked agrees; agrees = agrees };
@@ -169,10 +169,10 @@ talk_replied opens dopens opens_present dopens_present verifies law table master
           saved = λ other i turn name outcome at line reply. is_saved on t i turn name outcome at line reply;
           took = λ other. subst (λ bytes. Took old.sink new.sink bytes) (same ∙ t.output) took;
           front = λ fault. absurd (not_unwritten s stated fault);
-          readable = λ standard. subst (λ (tb : Table). AreReadable (turns_of tb (form_under tb master out.form) answers keys t.answered told.random)) (sym standard) (are_readable opens dopens opens_present dopens_present verifies keys (resolved_lines standard_table (form_under standard_table master out.form) answers keys t.answered told.random) told.random is);
+          readable = λ standard. subst (λ (tb : Table). AreReadable (turns_of tb (with_saved_only saved_only (form_under tb master out.form)) answers keys t.answered told.random)) (sym standard) (are_readable opens dopens opens_present dopens_present verifies keys (resolved_lines standard_table (with_saved_only saved_only (form_under standard_table master out.form)) answers keys t.answered told.random) told.random is);
         }
 
-    by_stop : (stop : Stop) → x.stop ≡ stop → IsAnswer (talk_answer stop x made next) old s new → HasReplies table (form_under table master out.form) keys told old s new
+    by_stop : (stop : Stop) → x.stop ≡ stop → IsAnswer (talk_answer stop x made next) old s new → HasReplies table (with_saved_only saved_only (form_under table master out.form)) keys told old s new
     by_stop goes is a = told_so (λ name bytes at. (next.files, a.files, save_keeps table name bytes master out.file out.form x.keys (record made { input = []; random = x.random }) at)) (λ h. is) (x.output ++ next.output) (ap (λ l. x.output ++ l) (saves_nothing table master out.file out.form x.keys (record made { input = []; random = x.random })) ∙ append-nil x.output) a.output
     by_stop wants is a = absurd (not_fault s stated a.status)
     by_stop (passes long_line) is a = told_so (λ name bytes at. (made.files, a.files, at)) (λ h. let clash : status.Done ≡ status.LineTooLong = sym h ∙ a.status in absurd (cc)) x.output refl a.output
@@ -199,33 +199,33 @@ none_replied table form keys told old s new undone other took = record {
 }
 
 -- behind a name that was looked up
-replied : SessionOpens → SessionDopens → SessionOpensPresent → SessionDopensPresent → SessionVerifies → SavesAreTurns → (table : Table) (master : Option Keys) (out : KeysetFile) (keys : Keys) (told : Told) (old : World) (s : Status) (new : World)
-    → IsKeyset keys → IsStated s → IsAnswer (answer (holds_session table master out keys) told) old s new → HasReplies table (form_under table master out.form) keys told old s new
-replied opens dopens opens_present dopens_present verifies law table master out keys told old s new is stated a = by_file out.file a
+replied : SessionOpens → SessionDopens → SessionOpensPresent → SessionDopensPresent → SessionVerifies → SavesAreTurns → (table : Table) (master : Option Keys) (out : KeysetFile) (saved_only : Bool) (keys : Keys) (told : Told) (old : World) (s : Status) (new : World)
+    → IsKeyset keys → IsStated s → IsAnswer (answer (holds_session table master out saved_only keys) told) old s new → HasReplies table (with_saved_only saved_only (form_under table master out.form)) keys told old s new
+replied opens dopens opens_present dopens_present verifies law table master out saved_only keys told old s new is stated a = by_file out.file a
   where
-    went : IsAnswer (answer (exchanges (saving_session table master out.form keys) (saves table master out)) told) old s new → HasReplies table (form_under table master out.form) keys told old s new
-    went a = talk_replied opens dopens opens_present dopens_present verifies law table master out keys told old s new is stated a
+    went : IsAnswer (answer (exchanges (saving_session table master out.form saved_only keys) (saves table master out)) told) old s new → HasReplies table (with_saved_only saved_only (form_under table master out.form)) keys told old s new
+    went a = talk_replied opens dopens opens_present dopens_present verifies law table master out saved_only keys told old s new is stated a
 
-    by_found : (found : Option (List ℕ)) → IsAnswer (look_answer found (refused told status.OutExists) (answer (exchanges (saving_session table master out.form keys) (saves table master out)) told)) old s new → HasReplies table (form_under table master out.form) keys told old s new
+    by_found : (found : Option (List ℕ)) → IsAnswer (look_answer found (refused told status.OutExists) (answer (exchanges (saving_session table master out.form saved_only keys) (saves table master out)) told)) old s new → HasReplies table (with_saved_only saved_only (form_under table master out.form)) keys told old s new
     by_found None a = went a
-    by_found (Some there) a = none_replied table (form_under table master out.form) keys told old s new (λ h. let clash : status.Done ≡ status.OutExists = sym h ∙ a.status in absurd (cc)) (not_unwritten s stated) a.output
+    by_found (Some there) a = none_replied table (with_saved_only saved_only (form_under table master out.form)) keys told old s new (λ h. let clash : status.Done ≡ status.OutExists = sym h ∙ a.status in absurd (cc)) (not_unwritten s stated) a.output
 
-    by_file : (file : Option (List ℕ)) → IsAnswer (answer (finds_free file (λ free. exchanges (saving_session table master out.form keys) (saves table master out))) told) old s new → HasReplies table (form_under table master out.form) keys told old s new
+    by_file : (file : Option (List ℕ)) → IsAnswer (answer (finds_free file (λ free. exchanges (saving_session table master out.form saved_only keys) (saves table master out))) told) old s new → HasReplies table (with_saved_only saved_only (form_under table master out.form)) keys told old s new
     by_file None a = went a
     by_file (Some name) a = by_found (map.get told.files name) a
 
 -- behind the text that is taken
-text_replied : SessionOpens → SessionDopens → SessionOpensPresent → SessionDopensPresent → SessionVerifies → SavesAreTurns → ReadKeysFit → (table : Table) (master : Option Keys) (name : List ℕ) (form : Format) (out : KeysetFile) (bytes : List ℕ) (keys : Keys) (told : Told) (old : World) (s : Status) (new : World)
+text_replied : SessionOpens → SessionDopens → SessionOpensPresent → SessionDopensPresent → SessionVerifies → SavesAreTurns → ReadKeysFit → (table : Table) (master : Option Keys) (name : List ℕ) (form : Format) (out : KeysetFile) (saved_only : Bool) (bytes : List ℕ) (keys : Keys) (told : Told) (old : World) (s : Status) (new : World)
     → map.get told.files name ≡ Some bytes → GivesKeyset table master form bytes keys → IsStated s
-    → IsAnswer (answer (takes_under origins.Keyset table master (record { file = Some name; form = form }) (holds_session table master out)) told) old s new → HasReplies table (form_under table master out.form) keys told old s new
-text_replied opens dopens opens_present dopens_present verifies law fit table master name form out bytes keys told old s new there gives stated a = by (nat_le (length bytes) (limit_under master)) refl (rw there at a)
+    → IsAnswer (answer (takes_under origins.Keyset table master (record { file = Some name; form = form }) (holds_session table master out saved_only)) told) old s new → HasReplies table (with_saved_only saved_only (form_under table master out.form)) keys told old s new
+text_replied opens dopens opens_present dopens_present verifies law fit table master name form out saved_only bytes keys told old s new there gives stated a = by (nat_le (length bytes) (limit_under master)) refl (rw there at a)
   where
-    by : (t : Bool) → nat_le (length bytes) (limit_under master) ≡ t → IsAnswer (if t then answer (keyset_under origins.Keyset table master form bytes (holds_session table master out)) told else refused told (status.KeysetTooLong origins.Keyset)) old s new → HasReplies table (form_under table master out.form) keys told old s new
+    by : (t : Bool) → nat_le (length bytes) (limit_under master) ≡ t → IsAnswer (if t then answer (keyset_under origins.Keyset table master form bytes (holds_session table master out saved_only)) told else refused told (status.KeysetTooLong origins.Keyset)) old s new → HasReplies table (with_saved_only saved_only (form_under table master out.form)) keys told old s new
     by true is a =
-        replied opens dopens opens_present dopens_present verifies law table master out keys told old s new (given_is_keyset fit table master form bytes keys gives (grind (arith, nat_tests, is))) stated
-        (subst (λ x. IsAnswer x old s new) (keyset_given origins.Keyset table master form bytes keys (holds_session table master out) told gives) a)
+        replied opens dopens opens_present dopens_present verifies law table master out saved_only keys told old s new (given_is_keyset fit table master form bytes keys gives (grind (arith, nat_tests, is))) stated
+        (subst (λ x. IsAnswer x old s new) (keyset_given origins.Keyset table master form bytes keys (holds_session table master out saved_only) told gives) a)
     by false is a =
-        none_replied table (form_under table master out.form) keys told old s new (λ h. let clash : status.Done ≡ status.KeysetTooLong origins.Keyset = sym h ∙ a.status in absurd (cc)) (not_unwritten s stated) a.output
+        none_replied table (with_saved_only saved_only (form_under table master out.form)) keys told old s new (λ h. let clash : status.Done ≡ status.KeysetTooLong origins.Keyset = sym h ∙ a.status in absurd (cc)) (not_unwritten s stated) a.output
 
 -- behind a lock
 lock_replied : (table : Table) (form : Form) (lock : Master) (bytes : List ℕ) (over : Keys) (next : Option Keys → Plan) (keys : Keys) (told : Told) (old : World) (s : Status) (new : World)
@@ -249,19 +249,19 @@ lock_replied table form lock bytes over next keys told old s new there read stat
 
 pub readable_answer : SessionOpens → SessionDopens → SessionOpensPresent → SessionDopensPresent → SessionVerifies → SavesAreTurns → ReadKeysFit → AnswersAreReadable
 readable_answer opens dopens opens_present dopens_present verifies law fit table words old s new stated never answers = record {
-  replies = λ told lock name form out keys tells is gives.
-      by told lock name form out keys gives.bytes gives.there gives.master gives.read gives.gives (subst (λ p. IsAnswer (answer p told) old s new) (ap (λ r. asked_plan table r words) is) (answers.over told tells stated (inr never)));
+  replies = λ told lock name form out saved_only keys tells is gives.
+      by told lock name form out saved_only keys gives.bytes gives.there gives.master gives.read gives.gives (subst (λ p. IsAnswer (answer p told) old s new) (ap (λ r. asked_plan table r words) is) (answers.over told tells stated (inr never)));
 }
   where
-    text : (told : Told) (master : Option Keys) (name : List ℕ) (form : Format) (out : KeysetFile) (keys : Keys) (bytes : List ℕ) → map.get told.files name ≡ Some bytes → GivesKeyset table master form bytes keys
-        → IsAnswer (answer (takes_under origins.Keyset table master (record { file = Some name; form = form }) (holds_session table master out)) told) old s new → HasReplies table (form_under table master out.form) keys told old s new
-    text told master name form out keys bytes there gives a = text_replied opens dopens opens_present dopens_present verifies law fit table master name form out bytes keys told old s new there gives stated a
+    text : (told : Told) (master : Option Keys) (name : List ℕ) (form : Format) (out : KeysetFile) (saved_only : Bool) (keys : Keys) (bytes : List ℕ) → map.get told.files name ≡ Some bytes → GivesKeyset table master form bytes keys
+        → IsAnswer (answer (takes_under origins.Keyset table master (record { file = Some name; form = form }) (holds_session table master out saved_only)) told) old s new → HasReplies table (with_saved_only saved_only (form_under table master out.form)) keys told old s new
+    text told master name form out saved_only keys bytes there gives a = text_replied opens dopens opens_present dopens_present verifies law fit table master name form out saved_only bytes keys told old s new there gives stated a
 
-    by : (told : Told) (lock : Lock) (name : List ℕ) (form : Format) (out : KeysetFile) (keys : Keys) (bytes : List ℕ) → map.get told.files name ≡ Some bytes → (master : Option Keys) → MasterThere lock told master → GivesKeyset table master form bytes keys
-        → IsAnswer (answer (session_plan table lock name form out) told) old s new → HasReplies table (form_under table master out.form) keys told old s new
-    by told None name form out keys bytes there None read gives a = text told None name form out keys bytes there gives a
-    by told None name form out keys bytes there (Some over) read gives a = absurd read
-    by told (Some lock) name form out keys bytes there None read gives a = absurd read
-    by told (Some lock) name form out keys bytes there (Some over) (of_lock, lies, read) gives a =
-        lock_replied table (form_under table (Some over) out.form) lock of_lock over (λ master. takes_under origins.Keyset table master (record { file = Some name; form = form }) (holds_session table master out)) keys told old s new lies read stated a
-        (λ later. text told (Some over) name form out keys bytes there gives later)
+    by : (told : Told) (lock : Lock) (name : List ℕ) (form : Format) (out : KeysetFile) (saved_only : Bool) (keys : Keys) (bytes : List ℕ) → map.get told.files name ≡ Some bytes → (master : Option Keys) → MasterThere lock told master → GivesKeyset table master form bytes keys
+        → IsAnswer (answer (session_plan table lock name form out saved_only) told) old s new → HasReplies table (with_saved_only saved_only (form_under table master out.form)) keys told old s new
+    by told None name form out saved_only keys bytes there None read gives a = text told None name form out saved_only keys bytes there gives a
+    by told None name form out saved_only keys bytes there (Some over) read gives a = absurd read
+    by told (Some lock) name form out saved_only keys bytes there None read gives a = absurd read
+    by told (Some lock) name form out saved_only keys bytes there (Some over) (of_lock, lies, read) gives a =
+        lock_replied table (with_saved_only saved_only (form_under table (Some over) out.form)) lock of_lock over (λ master. takes_under origins.Keyset table master (record { file = Some name; form = form }) (holds_session table master out saved_only)) keys told old s new lies read stated a
+        (λ later. text told (Some over) name form out saved_only keys bytes there gives later)

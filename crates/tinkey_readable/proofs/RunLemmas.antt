@@ -32,7 +32,7 @@ use Rattle.tinkey_session.specs.Laws.{EditedIsKeyset, EditedIsSound, IsEdited, S
 use Rattle.tinkey_session.specs.Lines.{line_of}
 use Rattle.tinkey_session.specs.Session.{Remains, lines_of, remains}
 use Rattle.tinkey_session.specs.Talking.{Stop, goes, wants, passes, line_limit, long_line, many_lines, Talk}
-use Rattle.tinkey_session.specs.Saving.{by_files, files_after}
+use Rattle.tinkey_session.specs.Saving.{by_files, files_after, with_saved_only}
 use Rattle.tinkey_session.specs.SessionLaws.{SessionIsEdits}
 use Rattle.tinkey_session.specs.TalkLaws.{SavesAreTurns}
 use Rattle.wrapped_prims.specs.Answers.{Sealed, dseal_answer, seal_answer, tag_answer}
@@ -204,20 +204,20 @@ convert_step law binary json table in' out told before after old done form read 
     (read_faultless before old is) stored refl
 
 -- the answer of a session over its whole input that is Done, and what goes on
-pub record SessionDone (table : Table) (master : Option Keys) (out : KeysetFile) (old : Keys) (told : Told) : Type 0 where
+pub record SessionDone (table : Table) (master : Option Keys) (out : KeysetFile) (saved_only : Bool) (old : Keys) (told : Told) : Type 0 where
   pub last : Remains
-  pub is : remains table old (told_lines table master out.form old told) told.random ≡ Some last
+  pub is : remains table old (told_lines table master out.form saved_only old told) told.random ≡ Some last
   pub short : AllByRecursion (λ line. length line ≤ line_limit) (lines_of told.input)
   pub left : Told
   pub left_bytes : last.left ≡ left.random
-  pub goes_on : (answer (exchanges (saving_session table master out.form old) (saves table master out)) told).files ≡ (answer (saves table master out last.keys) left).files
+  pub goes_on : (answer (exchanges (saving_session table master out.form saved_only old) (saves table master out)) told).files ≡ (answer (saves table master out last.keys) left).files
   pub done : IsDoneAnswer (answer (saves table master out last.keys) left)
 
-pub talk_done : SavesAreTurns → (table : Table) (master : Option Keys) (out : KeysetFile) (old : Keys) (told : Told) → IsDoneAnswer (answer (exchanges (saving_session table master out.form old) (saves table master out)) told) → SessionDone table master out old told
-talk_done law table master out old told done = by_stop x.stop refl done
+pub talk_done : SavesAreTurns → (table : Table) (master : Option Keys) (out : KeysetFile) (saved_only : Bool) (old : Keys) (told : Told) → IsDoneAnswer (answer (exchanges (saving_session table master out.form saved_only old) (saves table master out)) told) → SessionDone table master out saved_only old told
+talk_done law table master out saved_only old told done = by_stop x.stop refl done
   where
     x : Talk
-    x = told_session table master out.form old told
+    x = told_session table master out.form saved_only old told
 
     made : Told
     made = record told { files = files_after told.files x.asked }
@@ -228,13 +228,13 @@ talk_done law table master out old told done = by_stop x.stop refl done
     next : Answer
     next = answer (saves table master out x.keys) left
 
-    by_stop : (s : Stop) → x.stop ≡ s → IsDoneAnswer (talk_answer s x made next) → SessionDone table master out old told
+    by_stop : (s : Stop) → x.stop ≡ s → IsDoneAnswer (talk_answer s x made next) → SessionDone table master out saved_only old told
     by_stop goes is done =
-        let t = law table (form_under table master out.form) (by_files told.files) old told.input told.random true in
+        let t = law table (with_saved_only saved_only (form_under table master out.form)) (by_files told.files) old told.input told.random true in
         let all : lines_of told.input ≡ t.answered = t.cut ∙ ap (λ l. t.answered ++ l) (t.all is) ∙ append-nil t.answered in
         record {
           last = t.last;
-          is = ap (λ l. remains table old (saving_lines table (form_under table master out.form) (by_files told.files) old (each line_of l) told.random) told.random) all ∙ t.remains';
+          is = ap (λ l. remains table old (saving_lines table (with_saved_only saved_only (form_under table master out.form)) (by_files told.files) old (each line_of l) told.random) told.random) all ∙ t.remains';
           short = subst (λ l. AllByRecursion (λ line. length line ≤ line_limit) l) (sym all) t.short;
           left = left;
           left_bytes = t.left (λ h. let e : goes ≡ wants = sym is ∙ h in absurd (cc));
@@ -272,26 +272,26 @@ saved table out keys told file is done = by out.file refl is done
               ∙ subst (λ n. map.get (answer (saves_as table None (Some other) out.form keys) told).files n ≡ Some (written_in out.form keys)) (same_Some _ _ is) p.there;
         }
 
-session_step : FaultlessKeysets → BinaryBack → JsonBack → SavesAreTurns → SessionIsEdits → EditedIsKeyset → SessionsKeepStored → (table : Table) (name : List ℕ) (form : Format) (out : KeysetFile) (file : List ℕ) (told : Told) (before after : Written) (old : Keys)
-    → out.file ≡ Some file → IsDoneAnswer (answer (command_plan table (session None name form out)) told)
+session_step : FaultlessKeysets → BinaryBack → JsonBack → SavesAreTurns → SessionIsEdits → EditedIsKeyset → SessionsKeepStored → (table : Table) (name : List ℕ) (form : Format) (out : KeysetFile) (saved_only : Bool) (file : List ℕ) (told : Told) (before after : Written) (old : Keys)
+    → out.file ≡ Some file → IsDoneAnswer (answer (command_plan table (session None name form out saved_only)) told)
     → form ≡ before.form → map.get told.files name ≡ Some before.bytes → out.form ≡ after.form
-    → bytes_at out.file (answer (command_plan table (session None name form out)) told).files (answer (command_plan table (session None name form out)) told).output ≡ Some after.bytes
+    → bytes_at out.file (answer (command_plan table (session None name form out saved_only)) told).files (answer (command_plan table (session None name form out saved_only)) told).output ≡ Some after.bytes
     → AllByRecursion (λ b. b < 256) told.random → keyset_of before ≡ Some old → AreStored old
-    → Gives table (record { asked = session None name form out; told = told }) old after
-session_step law binary json turns sessions edited keeps table name form out file told before after old named done form_is read put_form put random is stored =
-    let l = load_done origins.Keyset name form before.bytes old (holds_session table None out) told read (ap (λ x. read_in x before.bytes) form_is ∙ is) done in
-    let whole : IsDoneAnswer (answer (holds_session table None out old) told) = ap (λ (a : Answer). a.status) (sym l) ∙ done in
-    let free = free_done out.file (λ free. exchanges (saving_session table None out.form old) (saves table None out)) told whole in
-    let d = talk_done turns table None out old told (ap (λ (a : Answer). a.status) (sym free) ∙ whole) in
+    → Gives table (record { asked = session None name form out saved_only; told = told }) old after
+session_step law binary json turns sessions edited keeps table name form out saved_only file told before after old named done form_is read put_form put random is stored =
+    let l = load_done origins.Keyset name form before.bytes old (holds_session table None out saved_only) told read (ap (λ x. read_in x before.bytes) form_is ∙ is) done in
+    let whole : IsDoneAnswer (answer (holds_session table None out saved_only old) told) = ap (λ (a : Answer). a.status) (sym l) ∙ done in
+    let free = free_done out.file (λ free. exchanges (saving_session table None out.form saved_only old) (saves table None out)) told whole in
+    let d = talk_done turns table None out saved_only old told (ap (λ (a : Answer). a.status) (sym free) ∙ whole) in
     let p = saved table out d.last.keys d.left file named d.done in
     let faultless = read_faultless before old is in
     let keyset : IsKeyset old = record { faultless = faultless; words = each_of old.records (λ r s. s.held.id) stored } in
     let files = ap (λ (a : Answer). a.files) l ∙ ap (λ (a : Answer). a.files) free ∙ d.goes_on in
-    given law binary json table (record { asked = session None name form out; told = told }) old d.last.keys out after put_form put
-    (ap (λ f. bytes_at f (answer (command_plan table (session None name form out)) told).files (answer (command_plan table (session None name form out)) told).output) named ∙ ap (λ f. map.get f file) files ∙ p.there)
+    given law binary json table (record { asked = session None name form out saved_only; told = told }) old d.last.keys out after put_form put
+    (ap (λ f. bytes_at f (answer (command_plan table (session None name form out saved_only)) told).files (answer (command_plan table (session None name form out saved_only)) told).output) named ∙ ap (λ f. map.get f file) files ∙ p.there)
     p.within
-    (edited old d.last.keys (sessions table old (told_lines table None out.form old told) told.random d.last d.is) keyset).faultless
-    (keeps table old (told_lines table None out.form old told) told.random d.last random stored d.is)
+    (edited old d.last.keys (sessions table old (told_lines table None out.form saved_only old told) told.random d.last d.is) keyset).faultless
+    (keeps table old (told_lines table None out.form saved_only old told) told.random d.last random stored d.is)
     (d.last, d.is, refl)
 
 by_asked : FaultlessKeysets → BinaryBack → JsonBack → EditsKeepKeysets → EditsKeepStored → SavesAreTurns → SessionIsEdits → EditedIsKeyset → SessionsKeepStored → (table : Table) (asked : Asked) (told : Told) (before after : Written) (old : Keys) (h : Handing)
@@ -312,21 +312,21 @@ by_asked law binary json keeps keeps_stored turns sessions edited keep_sessions 
     (ap (λ (x : Handing). x.taken.form) same ∙ form) (ap (λ (x : Handing). bytes_at x.taken.file told.files told.input) same ∙ read) (ap (λ (x : Handing). x.put.form) same ∙ put_form)
     (ap (λ (x : Handing). bytes_at x.put.file (answer (command_plan table (convert_keyset None as_taken in' out)) told).files (answer (command_plan table (convert_keyset None as_taken in' out)) told).output) same ∙ put)
     is stored
-by_asked law binary json keeps keeps_stored turns sessions edited keep_sessions table (session None name form out) told before after old h e done form_is read put_form put random is stored = by_file out.file refl e
+by_asked law binary json keeps keeps_stored turns sessions edited keep_sessions table (session None name form out saved_only) told before after old h e done form_is read put_form put random is stored = by_file out.file refl e
   where
-    by_file : (f : Option (List ℕ)) → out.file ≡ f → session_handing name form out f ≡ Some h → Gives table (record { asked = session None name form out; told = told }) old after
+    by_file : (f : Option (List ℕ)) → out.file ≡ f → session_handing name form out f ≡ Some h → Gives table (record { asked = session None name form out saved_only; told = told }) old after
     by_file None named e = clash e
     by_file (Some file) named e =
         let same = same_Some _ _ e in
-        session_step law binary json turns sessions edited keep_sessions table name form out file told before after old named done
+        session_step law binary json turns sessions edited keep_sessions table name form out saved_only file told before after old named done
         (ap (λ (x : Handing). x.taken.form) same ∙ form_is) (ap (λ (x : Handing). bytes_at x.taken.file told.files told.input) same ∙ read) (ap (λ (x : Handing). x.put.form) same ∙ put_form)
-        (ap (λ (x : Handing). bytes_at x.put.file (answer (command_plan table (session None name form out)) told).files (answer (command_plan table (session None name form out)) told).output) same ∙ put)
+        (ap (λ (x : Handing). bytes_at x.put.file (answer (command_plan table (session None name form out saved_only)) told).files (answer (command_plan table (session None name form out saved_only)) told).output) same ∙ put)
         random is stored
 by_asked law binary json keeps keeps_stored turns sessions edited keep_sessions table (edit_keyset (Some master) edit in' out) told before after old h e done form read put_form put random is stored = clash e
 by_asked law binary json keeps keeps_stored turns sessions edited keep_sessions table (convert_keyset (Some master) how in' out) told before after old h e done form read put_form put random is stored = clash e
 by_asked law binary json keeps keeps_stored turns sessions edited keep_sessions table (convert_keyset None in_clear in' out) told before after old h e done form read put_form put random is stored = clash e
 by_asked law binary json keeps keeps_stored turns sessions edited keep_sessions table (convert_keyset None (under master) in' out) told before after old h e done form read put_form put random is stored = clash e
-by_asked law binary json keeps keeps_stored turns sessions edited keep_sessions table (session (Some master) name form' out) told before after old h e done form read put_form put random is stored = clash e
+by_asked law binary json keeps keeps_stored turns sessions edited keep_sessions table (session (Some master) name form' out saved_only) told before after old h e done form read put_form put random is stored = clash e
 by_asked law binary json keeps keeps_stored turns sessions edited keep_sessions table (create_keyset lock template out) told before after old h e done form read put_form put random is stored = clash e
 by_asked law binary json keeps keeps_stored turns sessions edited keep_sessions table (list_keyset lock in') told before after old h e done form read put_form put random is stored = clash e
 by_asked law binary json keeps keeps_stored turns sessions edited keep_sessions table (key_of lock name form' kind ad) told before after old h e done form read put_form put random is stored = clash e
@@ -346,16 +346,16 @@ asked_within table (edit_keyset None edit in' out) told bytes h e done read =
     let f = found_edit edit (λ e. takes_keyset in' (λ keys. makes_keyset (step keys e) (puts_keyset out))) told done in
     taken_within in' bytes (λ keys. makes_keyset (step keys f.edit) (puts_keyset out)) told (ap (λ (x : Handing). bytes_at x.taken.file told.files told.input) (same_Some _ _ e) ∙ read) (ap (λ (a : Answer). a.status) (sym f.goes_on) ∙ done)
 asked_within table (convert_keyset None as_taken in' out) told bytes h e done read = taken_within in' bytes (puts_keyset out) told (ap (λ (x : Handing). bytes_at x.taken.file told.files told.input) (same_Some _ _ e) ∙ read) done
-asked_within table (session None name form out) told bytes h e done read = by_file out.file e
+asked_within table (session None name form out saved_only) told bytes h e done read = by_file out.file e
   where
     by_file : (f : Option (List ℕ)) → session_handing name form out f ≡ Some h → length bytes ≤ keyset_limit
     by_file None e = clash e
-    by_file (Some file) e = load_within origins.Keyset name form bytes (holds_session table None out) told (ap (λ (x : Handing). bytes_at x.taken.file told.files told.input) (same_Some _ _ e) ∙ read) done
+    by_file (Some file) e = load_within origins.Keyset name form bytes (holds_session table None out saved_only) told (ap (λ (x : Handing). bytes_at x.taken.file told.files told.input) (same_Some _ _ e) ∙ read) done
 asked_within table (edit_keyset (Some master) edit in' out) told bytes h e done read = clash e
 asked_within table (convert_keyset (Some master) how in' out) told bytes h e done read = clash e
 asked_within table (convert_keyset None in_clear in' out) told bytes h e done read = clash e
 asked_within table (convert_keyset None (under master) in' out) told bytes h e done read = clash e
-asked_within table (session (Some master) name form' out) told bytes h e done read = clash e
+asked_within table (session (Some master) name form' out saved_only) told bytes h e done read = clash e
 asked_within table (create_keyset lock template out) told bytes h e done read = clash e
 asked_within table (list_keyset lock in') told bytes h e done read = clash e
 asked_within table (key_of lock name form kind ad) told bytes h e done read = clash e
@@ -388,7 +388,7 @@ done_edits sessions table told (edit_keyset lock edit in' out) old new does = re
   last = rw does.steps (rw does.accepted refl);
 }
 done_edits sessions table told (convert_keyset lock how in' out) old new does = record { edits = []; asked = tt; last = ap Some does }
-done_edits sessions table told (session lock name form out) old new does = subst (λ k. IsEdited old k) does.2 (sessions table old (told_lines table (master_told lock told) out.form old told) told.random does.0 does.1)
+done_edits sessions table told (session lock name form out saved_only) old new does = subst (λ k. IsEdited old k) does.2 (sessions table old (told_lines table (master_told lock told) out.form saved_only old told) told.random does.0 does.1)
 done_edits sessions table told (create_keyset lock template out) old new does = absurd does
 done_edits sessions table told (list_keyset lock in') old new does = absurd does
 done_edits sessions table told (key_of lock name form kind ad) old new does = absurd does

@@ -19,6 +19,7 @@ use Rattle.tinkey_session.specs.Lines.{Line, Outcome, Save}
 use Rattle.tinkey_session.specs.Saving.{FileAsked, Form, StoreAnswers, file_asked, files_of, iv_drawn, name_saved, outcome_of, resolved, why_of, written_by}
 use Rattle.tinkey_session.specs.Serving.{Served, answered, drawn_size, saved_reply, serve}
 use Rattle.tinkey_session.specs.Session.{Remains, Turn, lines_by, lines_then, remains}
+use Rattle.tinkey_session.specs.Talking.{unsaved_after}
 use Rattle.tinkey_session.specs.declared.reply.LineRefusal.{LineRefusal}
 use Rattle.tinkey_session.specs.declared.reply.LineRefusal.TheVariants.{KeysetTooLong}
 use Rattle.tinkey_session.specs.declared.reply.Reply.TheVariants.{Done}
@@ -75,35 +76,35 @@ pub record WasWritten (form : Form) (keys : Keys) (a : FileAsked) : Type 0 where
   pub iv : List ℕ
   pub is : form.written saved iv ≡ Ok a.bytes
 
-save_written : (form : Form) (answers : StoreAnswers) (before : List FileAsked) (keys : Keys) (random : List ℕ) (name : List ℕ) (outcome : Outcome) → AllByRecursion (WasWritten form keys) (files_of (resolved form answers before keys random (Save name outcome)))
-save_written form answers before keys random name outcome = by (written_by form keys random) refl
+save_written : (form : Form) (answers : StoreAnswers) (before : List FileAsked) (unsaved : Bool) (keys : Keys) (random : List ℕ) (name : List ℕ) (outcome : Outcome) → AllByRecursion (WasWritten form keys) (files_of (resolved form answers before unsaved keys random (Save name outcome)))
+save_written form answers before unsaved keys random name outcome = by (written_by form keys random) refl
   where
     by : (w : Result (List ℕ) LineRefusal) → written_by form keys random ≡ w → AllByRecursion (WasWritten form keys) (file_asked name (why_of (answers before name) w) (result_ok w))
     by (Ok bytes) is = (record { saved = keys; edited = no_edits keys; iv = take (iv_drawn form keys) random; is = is }, tt)
     by (Err why) is = tt
 
-line_written : (form : Form) (answers : StoreAnswers) (before : List FileAsked) (keys : Keys) (random : List ℕ) (line : Line) → AllByRecursion (WasWritten form keys) (files_of (resolved form answers before keys random line))
-line_written form answers before keys random line = elim (saves_or_not line) [
-  | inl save ↦ subst (λ l. AllByRecursion (WasWritten form keys) (files_of (resolved form answers before keys random l))) (sym save.2) (save_written form answers before keys random save.0 save.1)
-  | inr stays ↦ subst (AllByRecursion (WasWritten form keys)) (sym (ap files_of (stays.same form answers before keys random) ∙ stays.none)) tt
+line_written : (form : Form) (answers : StoreAnswers) (before : List FileAsked) (unsaved : Bool) (keys : Keys) (random : List ℕ) (line : Line) → AllByRecursion (WasWritten form keys) (files_of (resolved form answers before unsaved keys random line))
+line_written form answers before unsaved keys random line = elim (saves_or_not line) [
+  | inl save ↦ subst (λ l. AllByRecursion (WasWritten form keys) (files_of (resolved form answers before unsaved keys random l))) (sym save.2) (save_written form answers before unsaved keys random save.0 save.1)
+  | inr other ↦ subst (AllByRecursion (WasWritten form keys)) (sym (other.none form answers before unsaved keys random)) tt
 ]
 
 all_both : {A : Type 0} (P : A → Type 0) (xs ys : List A) → AllByRecursion P xs → AllByRecursion P ys → AllByRecursion P (xs ++ ys)
 all_both P [] ys first later = later
 all_both P (x ∷ xs) ys first later = (first.0, all_both P xs ys first.1 later)
 
-lines_written : (table : Table) (form : Form) (answers : StoreAnswers) (before : List FileAsked) (keys : Keys) (lines : List Line) (random : List ℕ) (last : Remains)
-    → remains table keys (lines_by table (resolved form answers) before keys lines random) random ≡ Some last
-    → AllByRecursion (WasWritten form keys) (flat_map files_of (lines_by table (resolved form answers) before keys lines random))
+lines_written : (table : Table) (form : Form) (answers : StoreAnswers) (before : List FileAsked) (unsaved : Bool) (keys : Keys) (lines : List Line) (random : List ℕ) (last : Remains)
+    → remains table keys (lines_by table (resolved form answers) before unsaved keys lines random) random ≡ Some last
+    → AllByRecursion (WasWritten form keys) (flat_map files_of (lines_by table (resolved form answers) before unsaved keys lines random))
 unfolding remains lines_by
-lines_written table form answers before keys [] random last e = tt
-lines_written table form answers before keys (line ∷ later) random last e = by (λ y k. lines_written table form answers (before ++ files_of l) y.keys later y.left last k) (serve table keys l random) refl e
+lines_written table form answers before unsaved keys [] random last e = tt
+lines_written table form answers before unsaved keys (line ∷ later) random last e = by (λ y k. lines_written table form answers (before ++ files_of l) (unsaved_after unsaved l y.reply) y.keys later y.left last k) (serve table keys l random) refl e
   where
     l : Line
-    l = resolved form answers before keys random line
+    l = resolved form answers before unsaved keys random line
 
     over : Served → List Line
-    over y = lines_by table (resolved form answers) (before ++ files_of l) y.keys later y.left
+    over y = lines_by table (resolved form answers) (before ++ files_of l) (unsaved_after unsaved l y.reply) y.keys later y.left
 
     by : ((y : Served) → remains table y.keys (over y) y.left ≡ Some last → AllByRecursion (WasWritten form y.keys) (flat_map files_of (over y)))
         → (o : Option Served) → serve table keys l random ≡ o → option_and_then (λ y. remains table y.keys (lines_then later o over) y.left) o ≡ Some last
@@ -111,7 +112,7 @@ lines_written table form answers before keys (line ∷ later) random last e = by
     by behind None t k = clash k
     by behind (Some s) t k =
         subst (AllByRecursion (WasWritten form keys)) (sym (flat_map-cons files_of l (over s)))
-        (all_both (WasWritten form keys) (files_of l) (flat_map files_of (over s)) (line_written form answers before keys random line)
+        (all_both (WasWritten form keys) (files_of l) (flat_map files_of (over s)) (line_written form answers before unsaved keys random line)
         (each_of (flat_map files_of (over s)) (λ a w. record { saved = w.saved; edited = edited_on keys s.keys w.saved (serve_edits table keys l random s t) w.edited; iv = w.iv; is = w.is }) (behind s k)))
 
 each_among : {A : Type 0} (P : A → Type 0) (xs : List A) (x : A) → AllByRecursion P xs → Among x xs → P x
@@ -121,10 +122,10 @@ each_among P (y ∷ ys) x all (inr later) = each_among P ys x all.1 later
 
 -- each file that lines ask for was written so
 pub asked_written : (table : Table) (form : Form) (answers : StoreAnswers) (keys : Keys) (lines : List Line) (random : List ℕ) (last : Remains) (asked : List FileAsked) (a : FileAsked)
-    → remains table keys (lines_by table (resolved form answers) [] keys lines random) random ≡ Some last
-    → asked ≡ flat_map files_of (lines_by table (resolved form answers) [] keys lines random) → Contains asked a → WasWritten form keys a
+    → remains table keys (lines_by table (resolved form answers) [] false keys lines random) random ≡ Some last
+    → asked ≡ flat_map files_of (lines_by table (resolved form answers) [] false keys lines random) → Contains asked a → WasWritten form keys a
 asked_written table form answers keys lines random last asked a e same there =
-    each_among (WasWritten form keys) asked a (subst (AllByRecursion (WasWritten form keys)) (sym same) (lines_written table form answers [] keys lines random last e)) (among-contains asked a there)
+    each_among (WasWritten form keys) asked a (subst (AllByRecursion (WasWritten form keys)) (sym same) (lines_written table form answers [] false keys lines random last e)) (among-contains asked a there)
 
 -- ---- a save that was answered ok
 
@@ -148,8 +149,8 @@ record SavedSo (form : Form) (answers : StoreAnswers) (first : List FileAsked) (
   free : answers first name ≡ None
   file : outcome.file ≡ Some bytes
 
-save_so : (form : Form) (answers : StoreAnswers) (first : List FileAsked) (keys : Keys) (random : List ℕ) (other : List ℕ) (o : Outcome) (name : List ℕ) (outcome : Outcome) → Save name outcome ≡ resolved form answers first keys random (Save other o) → outcome.why ≡ None → SavedSo form answers first keys random name outcome
-save_so form answers first keys random other o name outcome is why =
+save_so : (form : Form) (answers : StoreAnswers) (first : List FileAsked) (unsaved : Bool) (keys : Keys) (random : List ℕ) (other : List ℕ) (o : Outcome) (name : List ℕ) (outcome : Outcome) → Save name outcome ≡ resolved form answers first unsaved keys random (Save other o) → outcome.why ≡ None → SavedSo form answers first keys random name outcome
+save_so form answers first unsaved keys random other o name outcome is why =
     let e : Save name outcome ≡ Save other (outcome_of form keys random (answers first other)) = is in
     let same_name : other ≡ name = cc in
     let same : outcome ≡ outcome_of form keys random (answers first other) = cc in
@@ -164,10 +165,10 @@ save_so form answers first keys random other o name outcome is why =
     }
     by same_name same (Err refusal) is = clash (sym why ∙ ap (λ x. x.why) same ∙ ap (why_of (answers first other)) is)
 
-saved_so : (form : Form) (answers : StoreAnswers) (first : List FileAsked) (keys : Keys) (random : List ℕ) (line : Line) (name : List ℕ) (outcome : Outcome) → Save name outcome ≡ resolved form answers first keys random line → outcome.why ≡ None → SavedSo form answers first keys random name outcome
-saved_so form answers first keys random line name outcome is why = elim (saves_or_not line) [
-  | inl save ↦ save_so form answers first keys random save.0 save.1 name outcome (is ∙ ap (resolved form answers first keys random) save.2) why
-  | inr stays ↦ clash (sym stays.unnamed ∙ ap name_saved (sym (is ∙ stays.same form answers first keys random)))
+saved_so : (form : Form) (answers : StoreAnswers) (first : List FileAsked) (unsaved : Bool) (keys : Keys) (random : List ℕ) (line : Line) (name : List ℕ) (outcome : Outcome) → Save name outcome ≡ resolved form answers first unsaved keys random line → outcome.why ≡ None → SavedSo form answers first keys random name outcome
+saved_so form answers first unsaved keys random line name outcome is why = elim (saves_or_not line) [
+  | inl save ↦ save_so form answers first unsaved keys random save.0 save.1 name outcome (is ∙ ap (resolved form answers first unsaved keys random) save.2) why
+  | inr other ↦ clash (sym (other.unnamed form answers first unsaved keys random) ∙ ap name_saved (sym is))
 ]
 
 -- the file that it asks for
@@ -186,13 +187,13 @@ pub record SavedAt (table : Table) (form : Form) (answers : StoreAnswers) (keys 
   pub written : written_by form saved left ≡ Ok bytes
   pub first : List FileAsked
   pub later : List FileAsked
-  pub split : flat_map files_of (lines_by table (resolved form answers) [] keys lines random) ≡ first ++ made_file name bytes ∷ later
+  pub split : flat_map files_of (lines_by table (resolved form answers) [] false keys lines random) ≡ first ++ made_file name bytes ∷ later
 
 pub saved_at : (table : Table) (form : Form) (answers : StoreAnswers) (keys : Keys) (lines : List Line) (random : List ℕ) (i : ℕ) (t : Turn) (name : List ℕ) (outcome : Outcome)
-    → LineThere table form answers [] keys lines random i t → t.line ≡ Save name outcome → t.reply ≡ Done → SavedAt table form answers keys lines random t.before name
+    → LineThere table form answers [] false keys lines random i t → t.line ≡ Save name outcome → t.reply ≡ Done → SavedAt table form answers keys lines random t.before name
 saved_at table form answers keys lines random i t name outcome p line reply =
     let why = reply_none table t.before p.left name outcome p.served (subst (λ asked. serve table t.before asked p.left ≡ Some p.served) line p.serves) (sym reply ∙ p.reply) in
-    let s = saved_so form answers (flat_map files_of p.front) t.before p.left p.line name outcome (sym line ∙ p.is) why in
+    let s = saved_so form answers (flat_map files_of p.front) p.unsaved' t.before p.left p.line name outcome (sym line ∙ p.is) why in
     let later = flat_map files_of p.rest in
     record {
       front = p.front;

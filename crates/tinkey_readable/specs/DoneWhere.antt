@@ -6,7 +6,7 @@
 --   StreamsDone where a stream is sealed, and where one is opened
 --   RangesDone, SessionsDone, EnvelopesDone   where those are
 --   KeyOfDone   where key-of finds a key under which the input stands
-use Rattle.std.specs.Prelude.{◌≡◌, ◌↔◌, ◌⊎◌, ℕ, ◌+◌, ◌≤◌, true, List, ◌++◌, length, take, Option, Some, None, Ok}
+use Rattle.std.specs.Prelude.{◌≡◌, ◌↔◌, ◌⊎◌, ℕ, ◌+◌, ◌≤◌, Bool, true, List, ◌++◌, length, take, Option, Some, None, Ok}
 use Rattle.std.specs.FinMap as map
 use Rattle.std.specs.List.{Contains}
 use Rattle.key_msgs.specs.Templates.{Row, row_named}
@@ -240,21 +240,22 @@ IsSavedWithin table master (Some name) form keys random = FitsThere table master
 -- them, so that the session goes on to the end of its input; and the last keyset can be saved, of the random
 -- bytes that are left.
 pub record SessionGoes (table : Table) (lock : Lock) (name : List ℕ) (form : Format) (out : KeysetFile)
-    (told : Told) : Type 0 where
+    (saved_only : Bool) (told : Told) : Type 0 where
   pub master : Option Keys
   pub opens : OpensLock table lock told master
   pub keys : Keys
   pub lies : LiesThere table master (record { file = Some name; form = form }) told keys
-  pub goes_on : (told_session table master out.form keys told).stop ≡ goes
-  pub free : IsFree out.file (files_after told.files (told_session table master out.form keys told).asked)
-  pub saved : let x = told_session table master out.form keys told in
+  pub goes_on : (told_session table master out.form saved_only keys told).stop ≡ goes
+  pub free : IsFree out.file (files_after told.files (told_session table master out.form saved_only keys told).asked)
+  pub saved : let x = told_session table master out.form saved_only keys told in
       IsSavedWithin table master out.file out.form x.keys x.random
 
 -- a session is answered Done exactly where that is so
 abbrev pub SessionsDone : Type 0
-SessionsDone = (table : Table) (lock : Lock) (name : List ℕ) (form : Format) (out : KeysetFile) (told : Told)
-    → ((answer (command_plan table (session lock name form out)) told).status ≡ status.Done)
-    ↔ SessionGoes table lock name form out told
+SessionsDone = (table : Table) (lock : Lock) (name : List ℕ) (form : Format) (out : KeysetFile)
+    (saved_only : Bool) (told : Told)
+    → ((answer (command_plan table (session lock name form out saved_only)) told).status ≡ status.Done)
+    ↔ SessionGoes table lock name form out saved_only told
 
 -- ---- envelopes
 

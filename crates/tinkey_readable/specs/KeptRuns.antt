@@ -166,9 +166,9 @@ pub record Course (events : List Event) (before after : Written) (old : Keys) : 
 -- the claim holds of the edit that is asked for, or of that of each accepted line of the session
 abbrev pub OfAsked : (Keys → AskedEdit → Type 0) → Keys → Told → Asked → Type 0
 OfAsked Claim keys told (edit_keyset lock edit in' out) = Claim keys edit
-OfAsked Claim keys told (session lock name form out) =
+OfAsked Claim keys told (session lock name form out saved_only) =
     EachAcceptedLine standard_table Claim keys
-    (told_lines standard_table (master_told lock told) out.form keys told) told.random
+    (told_lines standard_table (master_told lock told) out.form saved_only keys told) told.random
 OfAsked Claim keys told asked = Unit {0}
 
 -- it holds of what each of such runs did to the keyset that its text gave

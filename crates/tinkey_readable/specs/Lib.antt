@@ -17,6 +17,7 @@ pub mod Resealing
 pub mod ResealedStreams
 pub mod Runs
 pub mod SavedLines
+pub mod SavedReplies
 pub mod ServingTemplates
 pub mod StreamFiles
 pub mod StreamRuns

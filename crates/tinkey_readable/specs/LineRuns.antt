@@ -5,13 +5,13 @@
 --   IsTurnAt  a turn of a session
 --   WasMade   what a run or a line made of an input, and the runs that led on from there
 --   IsRead    what a run or a line reads of that, over the keyset that they led to
-use Rattle.std.specs.Prelude.{◌≡◌, ℕ, List, [], ◌∷◌, Some, None, slice_get}
+use Rattle.std.specs.Prelude.{◌≡◌, ℕ, Bool, List, [], ◌∷◌, Some, None, slice_get}
 use Rattle.std.specs.List.{AllByRecursion}
 use Rattle.keyset_model.specs.Keyset.{Keys, primary_of}
 use Rattle.keyset_model.specs.declared.record.Record.{Record}
 use Rattle.managers.specs.Standard.{standard_table}
 use Rattle.tinkey_session.specs.Lines.{Line, Seal, Open, Dseal, Dopen, Reseal, Dreseal, Tag, Verify, Derive}
-use Rattle.tinkey_session.specs.Saving.{Form, StoreAnswers, by_files}
+use Rattle.tinkey_session.specs.Saving.{Form, StoreAnswers, by_files, with_saved_only}
 use Rattle.tinkey_session.specs.Session.{Turn, asked_in, turns}
 use Rattle.tinkey_session.specs.declared.reply.Reply.{Reply}
 use Rattle.tinkey_session.specs.declared.reply.Reply.TheVariants.{Done, Gives}
@@ -75,8 +75,10 @@ pub data WasMade (work : AskedWork) (input output : List ℕ) (r : Record) (afte
       primary_of old ≡ Some r → WasMade work input output r after
   by_line : (run : Run) (runs : List Passage) (before : Written) (old : Keys) →
       Lead (passages.by_run run ∷ runs) before after old → (name : List ℕ) (form : Format)
-      (out : KeysetFile) → run.asked ≡ session None name form out → (place : ℕ) (t : Turn) →
-      IsTurnAt (form_under standard_table None out.form) (by_files run.told.files) old run.told place t →
+      (out : KeysetFile) (saved_only : Bool) → run.asked ≡ session None name form out saved_only →
+      (place : ℕ) (t : Turn) →
+      IsTurnAt (with_saved_only saved_only (form_under standard_table None out.form))
+      (by_files run.told.files) old run.told place t →
       t.line ≡ asks work input → t.reply ≡ Gives output →
       primary_of t.before ≡ Some r → WasMade work input output r after
 

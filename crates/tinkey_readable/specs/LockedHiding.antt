@@ -86,9 +86,9 @@ LockedRunsPut = (table : Table) (asked : Asked) (told : Told) (put : SealedPut)
 -- Each file that the lines of a session under a master ask for, whatever it is given and however far it comes,
 -- has such a text, of the keyset after some edits.
 abbrev pub LockedLinesSave : Type 0
-LockedLinesSave = (table : Table) (over keys : Keys) (form : Format) (answers : StoreAnswers)
+LockedLinesSave = (table : Table) (over keys : Keys) (form : Format) (saved_only : Bool) (answers : StoreAnswers)
     (taken random : List ℕ) (ended : Bool) (a : FileAsked)
-    → Contains (saving_session table (Some over) form keys answers taken random ended).asked a
+    → Contains (saving_session table (Some over) form saved_only keys answers taken random ended).asked a
     → (saved : Keys) × IsEdited keys saved × ShowsInfoAlone table over saved form a.bytes
 
 -- these files have such a text of the last keyset more, where a file is named for it
@@ -101,12 +101,12 @@ SavesLast table over last (Some file) form files new = (text : List ℕ)
 -- last keyset; its output are the replies to its lines.
 abbrev pub LockedSessionsSave : Type 0
 LockedSessionsSave = (table : Table) (lock : Master) (name : List ℕ) (form : Format) (out : KeysetFile)
-    (told : Told)
-    → let a = answer (command_plan table (session (Some lock) name form out)) told in
+    (saved_only : Bool) (told : Told)
+    → let a = answer (command_plan table (session (Some lock) name form out saved_only)) told in
     a.status ≡ status.Done
     → (over old : Keys) × OpensMaster table lock told over
     × LiesBehind table (Some lock) (record { file = Some name; form = form }) told old
-    × (let x = told_session table (Some over) out.form old told in (a.output ≡ x.output)
+    × (let x = told_session table (Some over) out.form saved_only old told in (a.output ≡ x.output)
     × SavesLast table over x.keys out.file out.form (files_after told.files x.asked) a.files)
 
 -- Two keysets that differ in key messages and key material types alone, and whose binary forms have one length,

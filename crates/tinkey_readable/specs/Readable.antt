@@ -4,7 +4,7 @@
 --   StoreGave     files were asked for, and the store answered so
 --   HasReplies    what was written are the replies of such turns, and what a line saved is there
 --   IsReadable    of a run: where it is that of a session, however it ended, it has such replies
-use Rattle.std.specs.Prelude.{◌≡◌, ◌≢◌, ℕ, ◌<◌, List, [], ◌++◌, length, map, Option, Some, Ok, slice_get}
+use Rattle.std.specs.Prelude.{◌≡◌, ◌≢◌, ℕ, ◌<◌, Bool, List, [], ◌++◌, length, map, Option, Some, Ok, slice_get}
 use Rattle.std.specs.List.{flat_map}
 use Rattle.keyset_model.specs.Keyset.{Keys, primary_of}
 use Rattle.keyset_model.specs.declared.record.Record.{Record}
@@ -14,7 +14,7 @@ use Rattle.tink_spec.specs.Files.{Files, StoreState}
 use Rattle.tink_spec.specs.Outside.{Rose, Took, TookPrefix}
 use Rattle.tinkey_session.specs.Lines.{Line, Outcome, line_of, Save, Seal, Open, Dseal, Dopen, Tag, Verify}
 use Rattle.tinkey_session.specs.declared.reply.Reply.TheVariants.{Done, Gives}
-use Rattle.tinkey_session.specs.Saving.{Agrees, FileAsked, Form, StoreAnswers, files_of}
+use Rattle.tinkey_session.specs.Saving.{Agrees, FileAsked, Form, StoreAnswers, files_of, with_saved_only}
 use Rattle.tinkey_session.specs.Session.{Turn, lines_of, turns}
 use Rattle.tinkey_session.specs.TalkLaws.{replies_text}
 use Rattle.wrapped_prims.specs.Candidates.{prefix_of}
@@ -124,10 +124,11 @@ pub record HasReplies (table : Table) (form : Form) (keys : Keys) (told : Told) 
 -- under the keyset in the file of the lock
 pub record IsReadable (table : Table) (words : List (List ℕ)) (old : World) (s : Status)
     (new : World) : Type 0 where
-  pub replies : (told : Told) (lock : Lock) (name : List ℕ) (form : Format) (out : KeysetFile) (keys : Keys)
-      → Tells old told → words_of words ≡ Ok (session lock name form out)
+  pub replies : (told : Told) (lock : Lock) (name : List ℕ) (form : Format) (out : KeysetFile)
+      (saved_only : Bool) (keys : Keys) → Tells old told
+      → words_of words ≡ Ok (session lock name form out saved_only)
       → (gives : FileGives table lock name form told keys)
-      → HasReplies table (form_under table gives.master out.form) keys told old s new
+      → HasReplies table (with_saved_only saved_only (form_under table gives.master out.form)) keys told old s new
 
 -- However a run of these words ends, also where memory was wanting before it, it is readable.
 abbrev pub SessionsAreReadable : Type 0

@@ -28,7 +28,7 @@ use Rattle.tinkey_cmds.specs.Edits.{Edit, Stepped, first, step}
 use Rattle.tinkey_session.specs.HeldLaws.{AreBytes, AreStored}
 use Rattle.tinkey_session.specs.Laws.{IsEdited}
 use Rattle.tinkey_session.specs.Lines.{Line}
-use Rattle.tinkey_session.specs.Saving.{Form, StoreAnswers, by_files, resolved}
+use Rattle.tinkey_session.specs.Saving.{Form, StoreAnswers, by_files, resolved, with_saved_only}
 use Rattle.tinkey_session.specs.Serving.{edit_named}
 use Rattle.tinkey_session.specs.Session.{Remains, asked_in, lines_by, remains}
 use Rattle.tinkey_session.specs.Talking.{Talk}
@@ -89,7 +89,7 @@ session_handing name form out (Some file) =
 abbrev pub hands_on : Asked → Option Handing
 hands_on (edit_keyset None edit in' out) = Some (record { taken = in'; put = out })
 hands_on (convert_keyset None as_taken in' out) = Some (record { taken = in'; put = out })
-hands_on (session None name form out) = session_handing name form out out.file
+hands_on (session None name form out saved_only) = session_handing name form out out.file
 hands_on _ = None
 
 -- a run: what is asked, and what the outside objects told
@@ -178,7 +178,7 @@ hands_under (convert_keyset (Some lock) as_taken in' out) =
     Some (record { lock = lock; new = lock; handing = record { taken = in'; put = out } })
 hands_under (convert_keyset (Some lock) (under new) in' out) =
     Some (record { lock = lock; new = new; handing = record { taken = in'; put = out } })
-hands_under (session (Some lock) name form out) = session_under lock name form out out.file
+hands_under (session (Some lock) name form out saved_only) = session_under lock name form out out.file
 hands_under _ = None
 
 -- a run took the text that lies there under one master, and put the one that lies here under another or the
@@ -276,23 +276,24 @@ PassesBytes (by_wrap wrap locked unwrap) = DrawsBytes wrap × AllByRecursion Dra
 -- these lines, each as it is resolved in a session over this keyset that saves it in this form, in a store
 -- that answers so
 abbrev pub saving_lines : Table → Form → StoreAnswers → Keys → List Line → (random : List ℕ) → List Line
-saving_lines table form answers keys lines random = lines_by table (resolved form answers) [] keys lines random
+saving_lines table form answers keys lines random = lines_by table (resolved form answers) [] false keys lines random
 
 -- the keyset of the master in the file of a lock, if there is one
 abbrev pub master_told : Lock → Told → Option Keys
 master_told None told = None
 master_told (Some lock) told = option_and_then (read_in lock.form) (map.get told.files lock.file)
 
--- the lines of a told session that saves in clear or under a master: the store holds the files that are told,
--- and doesn't fail
-abbrev pub told_lines : Table → (master : Option Keys) → Format → Keys → Told → List Line
-told_lines table master form keys told =
-    saving_lines table (form_under table master form) (by_files told.files) keys (asked_in told.input) told.random
+-- the lines of a told session that saves in clear or under a master, and seals and tags only under a keyset that a
+-- file has, or always: the store holds the files that are told, and doesn't fail
+abbrev pub told_lines : Table → (master : Option Keys) → Format → (saved_only : Bool) → Keys → Told → List Line
+told_lines table master form saved_only keys told =
+    saving_lines table (with_saved_only saved_only (form_under table master form)) (by_files told.files) keys
+    (asked_in told.input) told.random
 
 -- how such a session stands at the end of its input
-abbrev pub told_session : Table → (master : Option Keys) → Format → Keys → Told → Talk
-told_session table master form keys told =
-    saving_session table master form keys (by_files told.files) told.input told.random true
+abbrev pub told_session : Table → (master : Option Keys) → Format → (saved_only : Bool) → Keys → Told → Talk
+told_session table master form saved_only keys told =
+    saving_session table master form saved_only keys (by_files told.files) told.input told.random true
 
 -- ---- one run
 
@@ -317,9 +318,10 @@ pub record IsCreated (template random : List ℕ) (new : Keys) : Type 0 where
 abbrev pub Does : Table → Told → (old new : Keys) → Asked → Type 0
 Does table told old new (edit_keyset lock edit in' out) = IsEdit edit told.random old new
 Does table told old new (convert_keyset lock how in' out) = old ≡ new
-Does table told old new (session lock name form out) =
+Does table told old new (session lock name form out saved_only) =
     (m : Remains)
-    × (remains table old (told_lines table (master_told lock told) out.form old told) told.random ≡ Some m)
+    × (remains table old (told_lines table (master_told lock told) out.form saved_only old told) told.random
+    ≡ Some m)
     × (m.keys ≡ new)
 Does table told old new _ = ⊥
 

@@ -8,7 +8,7 @@
 --   ReadsLines     what the lines made is read over the keyset that was saved
 --   SavedInClear, SavedUnderMaster   the laws
 --   LinesMake      what a line made is read anywhere
-use Rattle.std.specs.Prelude.{◌≡◌, ◌⊎◌, ℕ, ◌≤◌, List, [], length, take, Option, Some, None, slice_get}
+use Rattle.std.specs.Prelude.{◌≡◌, ◌⊎◌, ℕ, ◌≤◌, Bool, List, [], length, take, Option, Some, None, slice_get}
 use Rattle.std.specs.FinMap as map
 use Rattle.key_msgs.specs.declared.primitive.Primitive.TheVariants.{Aead, Daead, Mac}
 use Rattle.keyset_model.specs.Keyset.{Keys, primary_of}
@@ -17,7 +17,7 @@ use Rattle.managers.specs.Standard.{standard_table}
 use Rattle.tinkey_session.specs.HeldLaws.{AreBytes, AreStored}
 use Rattle.tinkey_session.specs.KeptKeys.{HasDistinctIds}
 use Rattle.tinkey_session.specs.Lines.{Outcome, Save}
-use Rattle.tinkey_session.specs.Saving.{by_files}
+use Rattle.tinkey_session.specs.Saving.{by_files, with_saved_only}
 use Rattle.tinkey_session.specs.Session.{Turn, asked_in, turns}
 use Rattle.tinkey_session.specs.declared.reply.Reply.TheVariants.{Done, Gives}
 use Rattle.wrapped_prims.specs.Answers.{dopen_answer, open_answer}
@@ -48,11 +48,12 @@ pub record SessionStarts (lock : Lock) (name : List ℕ) (form : Format) (out : 
   pub free : IsFree out.file told.files
 
 -- the turns of the lines that are answered, up to the end of the input or to what stops the session
-abbrev pub session_turns : (master : Option Keys) → Format → Keys → Told → List Turn
-session_turns master form keys told =
-    let answered = take (told_session standard_table master form keys told).count (asked_in told.input) in
+abbrev pub session_turns : (master : Option Keys) → Format → (saved_only : Bool) → Keys → Told → List Turn
+session_turns master form saved_only keys told =
+    let answered = take (told_session standard_table master form saved_only keys told).count (asked_in told.input) in
     turns standard_table keys
-    (saving_lines standard_table (form_under standard_table master form) (by_files told.files) keys answered told.random)
+    (saving_lines standard_table (with_saved_only saved_only (form_under standard_table master form))
+    (by_files told.files) keys answered told.random)
     told.random
 
 -- a line saved this keyset under this name, and was answered ok
@@ -126,10 +127,11 @@ pub record IsSavedFile (ts : List Turn) (keys saved : Keys) (form : Format)
 -- A line of a session over a keyset in clear that saved the keyset, and was answered ok, made a file of this name,
 -- which is there after the run, whatever the stated answer is: read back, it is the keyset before that line.
 abbrev pub SavedInClear : Type 0
-SavedInClear = (name file : List ℕ) (form : Format) (out : KeysetFile) (told : Told) (keys saved : Keys)
+SavedInClear = (name file : List ℕ) (form : Format) (out : KeysetFile) (saved_only : Bool) (told : Told)
+    (keys saved : Keys)
     (starts : SessionStarts None name form out told keys) → AreBytes starts.lies.bytes → AreBytes told.random
-    → let ts = session_turns None out.form keys told in HasSaved ts file saved
-    → let a = answer (command_plan standard_table (session None name form out)) told in
+    → let ts = session_turns None out.form saved_only keys told in HasSaved ts file saved
+    → let a = answer (command_plan standard_table (session None name form out saved_only)) told in
     IsSavedFile ts keys saved out.form (map.get a.files file)
 
 -- In these bytes, in this form, the keyset that was saved lies sealed: each master that still opens it gives
@@ -146,17 +148,18 @@ pub record IsSavedText (ts : List Turn) (keys saved : Keys) (master : Written) (
 
 -- So it is of a session over a keyset under a master.
 abbrev pub SavedUnderMaster : Type 0
-SavedUnderMaster = (lock : Master) (name file : List ℕ) (form : Format) (out : KeysetFile) (told : Told)
-    (over keys saved : Keys) (master : Written) → lock.form ≡ master.form → LiesIn master told lock.file
+SavedUnderMaster = (lock : Master) (name file : List ℕ) (form : Format) (out : KeysetFile) (saved_only : Bool)
+    (told : Told) (over keys saved : Keys) (master : Written) → lock.form ≡ master.form → LiesIn master told lock.file
     → (starts : SessionStarts (Some lock) name form out told keys) → starts.master ≡ Some over
     → AreStored keys → AreBytes told.random
-    → let ts = session_turns (Some over) out.form keys told in HasSaved ts file saved
-    → let a = answer (command_plan standard_table (session (Some lock) name form out)) told in
+    → let ts = session_turns (Some over) out.form saved_only keys told in HasSaved ts file saved
+    → let a = answer (command_plan standard_table (session (Some lock) name form out saved_only)) told in
     IsSavedText ts keys saved master out.form (map.get a.files file)
 
 -- What a line of either session made is read anywhere, as `kept_anywhere` and its kin say of what was made so.
 abbrev pub LinesMake : Type 0
-LinesMake = (lock : Lock) (name : List ℕ) (form : Format) (out : KeysetFile) (told : Told) (keys : Keys)
-    (starts : SessionStarts lock name form out told keys) (work : AskedWork) (input output : List ℕ) (r : Record)
-    → HasMade (session_turns starts.master out.form keys told) work input output r
+LinesMake = (lock : Lock) (name : List ℕ) (form : Format) (out : KeysetFile) (saved_only : Bool) (told : Told)
+    (keys : Keys) (starts : SessionStarts lock name form out told keys) (work : AskedWork) (input output : List ℕ)
+    (r : Record)
+    → HasMade (session_turns starts.master out.form saved_only keys told) work input output r
     → WasMadeBy work input output r

@@ -20,6 +20,7 @@ ghost use Rattle.tinkey_readable.specs.Resealing.{ResealedDopens, ResealedEnvelo
 ghost use Rattle.tinkey_readable.specs.ResealedStreams.{ResealedStreamsOpen};
 ghost use Rattle.tinkey_readable.specs.Runs.{LocksStep, ReadIsStored, RunStep, RunsDopen, RunsDopenPresent, RunsOpen, RunsOpenPresent, RunsUnwrap, RunsVerify, WrapStep};
 ghost use Rattle.tinkey_readable.specs.SavedLines.{LinesMake, SavedInClear, SavedUnderMaster};
+ghost use Rattle.tinkey_readable.specs.SavedReplies.{SavedReplies, SavedRepliesInClear, SavedRepliesUnderMaster};
 ghost use Rattle.tinkey_readable.specs.ServingTemplates.{StreamTemplatesServe, TemplatesServe};
 ghost use Rattle.tinkey_readable.specs.StreamFiles.{StreamsWholeOrAbsent};
 ghost use Rattle.tinkey_readable.specs.StreamRuns.{RunsOpenStream, RunsOpenStreamPresent};
@@ -37,8 +38,9 @@ use tinkey_cmds::laws::edits_keep_keysets;
 use tinkey_plans::laws::{commands_are_whole, done_exactly, fit_keysets_answer};
 use tinkey_session::laws::{
     edited_kept, kept_dopen, kept_dopen_present, kept_open, kept_open_present, kept_tag,
-    saves_are_turns, session_dopens, session_dopens_present, session_is_edits, session_opens,
-    session_opens_present, session_verifies, sound_kept, sound_usable, stored_kept,
+    saved_before_sealing, saves_are_turns, session_dopens, session_dopens_present,
+    session_is_edits, session_opens, session_opens_present, session_verifies, sound_kept,
+    sound_usable, stored_kept,
 };
 
 /// The written form of a keyset without a fault, binary or JSON, reads back to it: in the binary
@@ -517,6 +519,33 @@ pub fn saved_lines()
     ensures locked { SavedUnderMaster }
     ensures made { LinesMake }
 {
+    faultless_keysets();
+    forms_back();
+    read_is_stored();
+    wrap_back_bytes();
+    edits_keep_keysets();
+    stored_kept();
+    saves_are_turns();
+    session_is_edits();
+    edited_kept();
+    kept_anywhere();
+    sealings_fit();
+    kept_open();
+    kept_dopen();
+}
+
+/// In a session with the option `--saved`, however it ends, each output that a line sealed, resealed
+/// or tagged was made over the keyset of the file that the session read, or over one that an
+/// earlier line saved. So it is read over a file that is there after the run: what was sealed under
+/// a key with a prefix opens to its plaintext if ids were distinct at first, whatever was sealed
+/// opens to some plaintext, and a tag verifies. Under a lock it is so under the master, if its
+/// primary key has a prefix and is alone under it.
+pub fn saved_replies()
+    ensures made { SavedReplies }
+    ensures clear { SavedRepliesInClear }
+    ensures locked { SavedRepliesUnderMaster }
+{
+    saved_before_sealing();
     faultless_keysets();
     forms_back();
     read_is_stored();

@@ -1,5 +1,5 @@
 -- Locks, as steps.
-use Rattle.std.proofs.Common.{◌≡◌, ap, refl, subst, sym, ℕ, ◌≤◌, List, Option, Some, None, Result, Ok, Err}
+use Rattle.std.proofs.Common.{◌≡◌, ap, refl, subst, sym, ℕ, ◌≤◌, Bool, List, Option, Some, None, Result, Ok, Err}
 use Rattle.std.specs.Borrow.{Bor}
 use Rattle.std.specs.Option.{option_copied, option_map}
 use Rattle.std.specs.Result.{IsErrAnd}
@@ -199,19 +199,19 @@ converts_to table in' out taken put = takes_under origins.In table taken in' (pu
 abbrev pub converts_under : Table → NewLock → (in' out : KeysetFile) → Option Keys → Plan
 converts_under table new in' out taken = opens_new_lock table new taken (converts_to table in' out taken)
 
-abbrev pub holds_under : Table → (name : List ℕ) → Format → (out : KeysetFile) → Option Keys → Plan
-holds_under table name form out master = takes_under origins.Keyset table master (record { file = Some name; form = form }) (holds_session table master out)
+abbrev pub holds_under : Table → (name : List ℕ) → Format → (out : KeysetFile) → (saved_only : Bool) → Option Keys → Plan
+holds_under table name form out saved_only master = takes_under origins.Keyset table master (record { file = Some name; form = form }) (holds_session table master out saved_only)
 
 -- ---- a session under a lock
 
-pub holds_ends : {held : Option (Table × Keys × Held)} {table : Table} {master : Option Keys} (name : List ℕ) (form : Format) (out : KeysetFile) (old new : World) (r : Result (Unit {0}) Status) (s : Status) → IsLock held table master → IsErrAnd r (λ e. e ≡ s) → Passes {A = Keys} (takes_under origins.Keyset table master (record { file = Some name; form = form })) old (Err s) new → Finishes (holds_under table name form out master) old r new
-holds_ends {table = table} {master = master} name form out old new r s lock is one = finished_there {A = Keys} (takes_under origins.Keyset table master (record { file = Some name; form = form })) (holds_session table master out) old new r s is one
+pub holds_ends : {held : Option (Table × Keys × Held)} {table : Table} {master : Option Keys} (name : List ℕ) (form : Format) (out : KeysetFile) (saved_only : Bool) (old new : World) (r : Result (Unit {0}) Status) (s : Status) → IsLock held table master → IsErrAnd r (λ e. e ≡ s) → Passes {A = Keys} (takes_under origins.Keyset table master (record { file = Some name; form = form })) old (Err s) new → Finishes (holds_under table name form out saved_only master) old r new
+holds_ends {table = table} {master = master} name form out saved_only old new r s lock is one = finished_there {A = Keys} (takes_under origins.Keyset table master (record { file = Some name; form = form })) (holds_session table master out saved_only) old new r s is one
 
-pub holds_then : {held : Option (Table × Keys × Held)} {table : Table} {master : Option Keys} (name : List ℕ) (form : Format) (out : KeysetFile) (old mid new : World) (keyset : Keyset) (r : Result (Unit {0}) Status) → IsLock held table master → Passes (takes_under origins.Keyset table master (record { file = Some name; form = form })) old (Ok keyset) mid → Finishes (holds_session table master out keyset) mid r new → Finishes (holds_under table name form out master) old r new
-holds_then {table = table} {master = master} name form out old mid new keyset r lock one two = finishes_then {A = Keys} (takes_under origins.Keyset table master (record { file = Some name; form = form })) (holds_session table master out) old mid new keyset r one two
+pub holds_then : {held : Option (Table × Keys × Held)} {table : Table} {master : Option Keys} (name : List ℕ) (form : Format) (out : KeysetFile) (saved_only : Bool) (old mid new : World) (keyset : Keyset) (r : Result (Unit {0}) Status) → IsLock held table master → Passes (takes_under origins.Keyset table master (record { file = Some name; form = form })) old (Ok keyset) mid → Finishes (holds_session table master out saved_only keyset) mid r new → Finishes (holds_under table name form out saved_only master) old r new
+holds_then {table = table} {master = master} name form out saved_only old mid new keyset r lock one two = finishes_then {A = Keys} (takes_under origins.Keyset table master (record { file = Some name; form = form })) (holds_session table master out saved_only) old mid new keyset r one two
 
-pub not_free : {held : Option (Table × Keys × Held)} {table : Table} {master : Option Keys} (out : KeysetFile) (keys : Keys) (old new : World) (r : Result (Unit {0}) Status) (s : Status) → IsLock held table master → IsErrAnd r (λ e. e ≡ s) → Passes {A = Unit {0}} (finds_free out.file) old (Err s) new → Finishes (holds_session table master out keys) old r new
-not_free {table = table} {master = master} out keys old new r s lock is one = finished_there {A = Unit {0}} (finds_free out.file) (λ free. exchanges (saving_session table master out.form keys) (saves table master out)) old new r s is one
+pub not_free : {held : Option (Table × Keys × Held)} {table : Table} {master : Option Keys} (out : KeysetFile) (saved_only : Bool) (keys : Keys) (old new : World) (r : Result (Unit {0}) Status) (s : Status) → IsLock held table master → IsErrAnd r (λ e. e ≡ s) → Passes {A = Unit {0}} (finds_free out.file) old (Err s) new → Finishes (holds_session table master out saved_only keys) old r new
+not_free {table = table} {master = master} out saved_only keys old new r s lock is one = finished_there {A = Unit {0}} (finds_free out.file) (λ free. exchanges (saving_session table master out.form saved_only keys) (saves table master out)) old new r s is one
 
-pub free_then : {held : Option (Table × Keys × Held)} {table : Table} {master : Option Keys} (out : KeysetFile) (keys : Keys) (old mid new : World) (r : Result (Unit {0}) Status) → IsLock held table master → Passes (finds_free out.file) old (Ok tt) mid → Finishes (exchanges (saving_session table master out.form keys) (saves table master out)) mid r new → Finishes (holds_session table master out keys) old r new
-free_then {table = table} {master = master} out keys old mid new r lock one two = finishes_then (finds_free out.file) (λ free. exchanges (saving_session table master out.form keys) (saves table master out)) old mid new tt r one two
+pub free_then : {held : Option (Table × Keys × Held)} {table : Table} {master : Option Keys} (out : KeysetFile) (saved_only : Bool) (keys : Keys) (old mid new : World) (r : Result (Unit {0}) Status) → IsLock held table master → Passes (finds_free out.file) old (Ok tt) mid → Finishes (exchanges (saving_session table master out.form saved_only keys) (saves table master out)) mid r new → Finishes (holds_session table master out saved_only keys) old r new
+free_then {table = table} {master = master} out saved_only keys old mid new r lock one two = finishes_then (finds_free out.file) (λ free. exchanges (saving_session table master out.form saved_only keys) (saves table master out)) old mid new tt r one two

@@ -32,7 +32,7 @@ use Rattle.tinkey_run.proofs.UseLemmas.{behind_memory, primary_is}
 use Rattle.tinkey_run.specs.Written.{IsWritten, form_held, kept_within, with_status, write_status}
 use Rattle.tinkey_session.specs.Answered.{DrewSome}
 use Rattle.tinkey_session.proofs.TalkLemmas.{saves_are_steady}
-use Rattle.tinkey_session.specs.Saving.{Form, StoreAnswers, iv_drawn}
+use Rattle.tinkey_session.specs.Saving.{Form, StoreAnswers, iv_drawn, with_saved_only}
 use Rattle.tinkey_session.specs.Talking.{saving, talk_by}
 use Rattle.tinkey_session.specs.Talks.{IsSteady, TalksWith}
 use Rattle.tinkey_session.specs.Writing.{Unwrote, Writes, Wrote}
@@ -201,10 +201,10 @@ form_of_lock (Some (own, keys, held)) table None form is = absurd is.is
 form_of_lock (Some (own, keys, held)) table (Some m) form is = ap (λ t. form_sealed t keys form) is.is.0 ∙ ap (λ k. form_sealed table k form) is.is.1
 
 -- so a session whose lines are written in that form is the session of its plan
-pub session_in : (held : Option (Table × Keys × Held)) (table : Table) (master : Option Keys) (form : Format) (keys : Keys) (r : Result Keys TalkFault) (old new : World) → IsLock held table master
-    → TalksWith (λ answers. talk_by (saving table (form_held held form) answers) keys) r (sides_of old) (sides_of new) old.store new.store → Exchanges (saving_session table master form keys) r old new
-session_in held table master form keys r old new is talks =
-    subst (λ (f : Form). TalksWith (λ answers. talk_by (saving table f answers) keys) r (sides_of old) (sides_of new) old.store new.store) (form_of_lock held table master form is) talks
+pub session_in : (held : Option (Table × Keys × Held)) (table : Table) (master : Option Keys) (form : Format) (saved_only : Bool) (keys : Keys) (r : Result Keys TalkFault) (old new : World) → IsLock held table master
+    → TalksWith (λ answers. talk_by (saving table (with_saved_only saved_only (form_held held form)) answers) keys) r (sides_of old) (sides_of new) old.store new.store → Exchanges (saving_session table master form saved_only keys) r old new
+session_in held table master form saved_only keys r old new is talks =
+    subst (λ (f : Form). TalksWith (λ answers. talk_by (saving table (with_saved_only saved_only f) answers) keys) r (sides_of old) (sides_of new) old.store new.store) (form_of_lock held table master form is) talks
 
-pub session_steady : {held : Option (Table × Keys × Held)} {table : Table} {master : Option Keys} → IsLock held table master → (form : Format) (keys : Keys) (answers : StoreAnswers) → IsSteady (saving_session table master form keys answers)
-session_steady {table = table} {master = master} is form keys answers = saves_are_steady table (form_under table master form) answers keys
+pub session_steady : {held : Option (Table × Keys × Held)} {table : Table} {master : Option Keys} → IsLock held table master → (form : Format) (saved_only : Bool) (keys : Keys) (answers : StoreAnswers) → IsSteady (saving_session table master form saved_only keys answers)
+session_steady {table = table} {master = master} is form saved_only keys answers = saves_are_steady table (with_saved_only saved_only (form_under table master form)) answers keys

@@ -24,7 +24,8 @@ use tinkey_session::{TalkFault, WriteError, Writer};
 use tinkey_words::{Format, KeysetFile, Master};
 
 /// session: answers the lines of the input over the keyset in the file of this name, and puts the
-/// last keyset into a new file, if one is named. Both are in clear or under the lock.
+/// last keyset into a new file, if one is named. Both are in clear or under the lock. With
+/// `saved_only`, lines seal and tag only under a keyset that a file has.
 #[inline(never)]
 pub(crate) fn answer_lines<S: Source, K: Sink, E: Lookahead, D: Store>(
     alloc: Global,
@@ -33,6 +34,7 @@ pub(crate) fn answer_lines<S: Source, K: Sink, E: Lookahead, D: Store>(
     keyset: &str,
     form: Format,
     output: KeysetFile<'_>,
+    saved_only: bool,
     source: &mut S,
     sink: &mut K,
     entropy: &mut E,
@@ -40,7 +42,7 @@ pub(crate) fn answer_lines<S: Source, K: Sink, E: Lookahead, D: Store>(
 ) -> Result<(), Status>
     ensures { Finishes
         (session_plan (⟦<Managers as KeyTable>⟧.table managers.now) (seen_lock lock.entry) keyset.now
-        form (seen_place output.entry))
+        form (seen_place output.entry) saved_only)
         (world (S.state source.old) (K.state sink.old) (D.state store.old) (E.state entropy.old))
         result
         (world (S.state source.new) (K.state sink.new) (D.state store.new) (E.state entropy.new)) }
@@ -53,6 +55,7 @@ pub(crate) fn answer_lines<S: Source, K: Sink, E: Lookahead, D: Store>(
         keyset,
         form,
         output,
+        saved_only,
         source,
         sink,
         entropy,
@@ -68,6 +71,7 @@ fn answer_under<S: Source, K: Sink, E: Lookahead, D: Store>(
     keyset: &str,
     form: Format,
     output: KeysetFile<'_>,
+    saved_only: bool,
     source: &mut S,
     sink: &mut K,
     entropy: &mut E,
@@ -88,7 +92,8 @@ fn answer_under<S: Source, K: Sink, E: Lookahead, D: Store>(
         (⟦<Managers as KeyTable>⟧.table managers.now) master → Finishes
         (takes_under Origin.Keyset (⟦<Managers as KeyTable>⟧.table managers.now) master
         (record { file = Some keyset.now; form = form })
-        (holds_session (⟦<Managers as KeyTable>⟧.table managers.now) master (seen_place output.entry)))
+        (holds_session (⟦<Managers as KeyTable>⟧.table managers.now) master (seen_place output.entry)
+        saved_only))
         (world (S.state source.old) (K.state sink.old) (D.state store.old) (E.state entropy.old))
         result
         (world (S.state source.new) (K.state sink.new) (D.state store.new) (E.state entropy.new)) }
@@ -96,7 +101,7 @@ fn answer_under<S: Source, K: Sink, E: Lookahead, D: Store>(
     let keyset = load_under(alloc, lock, keyset, form, store)?;
     find_free(output.file, store)?;
     answer_all(
-        alloc, managers, lock, keyset, output, source, sink, entropy, store,
+        alloc, managers, lock, keyset, output, saved_only, source, sink, entropy, store,
     )
 }
 
@@ -127,11 +132,12 @@ type Boxes = PhantomData<
 >;
 
 /// Writes the keyset that a line saves, as the last one is written: in this form, in clear or under
-/// the lock.
+/// the lock. It also says whether lines seal and tag only under a keyset that is saved.
 #[derive(Clone, Copy)]
 struct SessionWriter<'h, 'm> {
     lock: Option<&'h OpenMaster<'m>>,
     form: Format,
+    saved_only: bool,
     boxes: Boxes,
 }
 
@@ -141,8 +147,9 @@ impl Writer for SessionWriter<'_, '_> {
     ghost use Rattle.managers.specs.Table.{Table, entries_by};
     ghost use Rattle.tinkey_plans.specs.Locks.{IsSomeLock};
     ghost use Rattle.tinkey_run.specs.Written.{form_held};
+    ghost use Rattle.tinkey_session.specs.Saving.{with_saved_only};
 
-    ghost form = { λ writer. form_held
+    ghost form = { λ writer. with_saved_only writer.saved_only (form_held
         (option_map (λ h. (
           or_standard (λ own. record {
             aead = entries_by
@@ -160,7 +167,7 @@ impl Writer for SessionWriter<'_, '_> {
           }) h.now.handle.managers.now.supplied,
           h.now.keyset,
           h.now.handle.held,
-        )) writer.lock) writer.form };
+        )) writer.lock) writer.form) };
 
     ghost ready = { λ writer. IsSomeLock
         (option_map (λ h. (
@@ -190,6 +197,10 @@ impl Writer for SessionWriter<'_, '_> {
     ) -> Result<Bytes, WriteError> {
         write_under(alloc, self.lock, self.form, keyset, entropy)
     }
+
+    fn saved_only(&self) -> bool {
+        self.saved_only
+    }
 }
 
 /// Answers all lines of the input over this keyset, and saves the last one. A line that saves the
@@ -200,6 +211,7 @@ fn answer_all<S: Source, K: Sink, E: Lookahead, D: Store>(
     lock: Option<&OpenMaster<'_>>,
     keyset: Keyset,
     output: KeysetFile<'_>,
+    saved_only: bool,
     source: &mut S,
     sink: &mut K,
     entropy: &mut E,
@@ -220,7 +232,7 @@ fn answer_all<S: Source, K: Sink, E: Lookahead, D: Store>(
         )) lock.entry)
         (⟦<Managers as KeyTable>⟧.table managers.now) master → Finishes
         (exchanges (saving_session (⟦<Managers as KeyTable>⟧.table managers.now) master
-        (seen_place output.entry).form keyset)
+        (seen_place output.entry).form saved_only keyset)
         (saves (⟦<Managers as KeyTable>⟧.table managers.now) master (seen_place output.entry)))
         (world (S.state source.old) (K.state sink.old) (D.state store.old) (E.state entropy.old))
         result
@@ -229,6 +241,7 @@ fn answer_all<S: Source, K: Sink, E: Lookahead, D: Store>(
     let writer = SessionWriter {
         lock,
         form: output.form,
+        saved_only,
         boxes: PhantomData,
     };
     match talk(

@@ -227,8 +227,9 @@ fn dispatch<S: Source, K: Sink, E: Lookahead, D: PieceStore>(
             keyset,
             form,
             output,
+            saved_only,
         } => answer_lines(
-            alloc, managers, lock, keyset, form, output, source, sink, entropy, store,
+            alloc, managers, lock, keyset, form, output, saved_only, source, sink, entropy, store,
         ),
         Request::Help { topic } => write_output(sink, help_text(topic).as_bytes()),
         Request::Version => write_output(sink, version_text().as_bytes()),

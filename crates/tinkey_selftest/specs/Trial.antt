@@ -27,6 +27,7 @@ use Rattle.tinkey_selftest.specs.declared.numbers.Words.{Words}
 use Rattle.tinkey_selftest.specs.declared.trial.Sealing.{Sealing}
 use Rattle.tinkey_session.specs.Lines.{Line, Seal, Open, Edit, Bad}
 use Rattle.tinkey_session.specs.Serving.{Served, serve}
+use Rattle.tinkey_session.specs.declared.reply.LineRefusal.TheVariants.{BadLine}
 use Rattle.tinkey_session.specs.declared.reply.Reply.{Reply}
 use Rattle.tinkey_session.specs.declared.reply.Reply.TheVariants.{Gives, Refuses}
 
@@ -80,7 +81,7 @@ name_of w = get_or names (w.c % 6) []
 -- a line about a record, which is always there
 abbrev pub about : (Record → Line) → Option Record → Line
 about asks (Some r) = asks r
-about asks None = Bad
+about asks None = Bad BadLine
 
 -- the line that deletes a record
 abbrev pub delete_line : Record → Line

@@ -161,7 +161,7 @@ fronts-line table keys (Verify tag body) random x e = fronts-unless (unfit keys 
 fronts-line table keys (Derive size input) random x e = fronts-unless (unfit keys Prf table) keys (λ bytes. computed keys bytes (derived_reply size) (derive_answer keys table input size)) (fronts-computed keys (derived_reply size) (derive_answer keys table input size)) random x e
 fronts-line table keys (AsksEdit edit) random x e = fronts-asked keys edit random x e
 fronts-line table keys (Save name outcome) random x e = fronts-saved keys outcome random x e
-fronts-line table keys Bad random x e = fronts-answered keys _ random x e
+fronts-line table keys (Bad why) random x e = fronts-answered keys _ random x e
 
 pub lines_draw_fronts : LinesDrawFronts
 unfolding Fronts
@@ -240,7 +240,7 @@ keeps-line table keys (Verify tag body) random x e = keeps-unless (unfit keys Ma
 keeps-line table keys (Derive size input) random x e = keeps-unless (unfit keys Prf table) keys random _ x (keeps-computed keys random (derived_reply size) (derive_answer keys table input size) x) e
 keeps-line table keys (AsksEdit edit) random x e = keeps-asked keys random edit x e
 keeps-line table keys (Save name outcome) random x e = keeps-saved keys random outcome x e
-keeps-line table keys Bad random x e = keeps-answered keys random _ x e
+keeps-line table keys (Bad why) random x e = keeps-answered keys random _ x e
 
 pub refusals_leave : RefusalsLeave
 unfolding KeepsRefused

@@ -12,7 +12,7 @@ use Rattle.tinkey_cmds.specs.Edits.{Edit, EditOf, Add, Rotate, Promote, Enable, 
 use Rattle.tinkey_cmds.specs.declared.command.KeysetEdit.{KeysetEdit}
 use Rattle.tinkey_session.proofs.Options.{clash}
 use Rattle.tinkey_session.specs.Keeping.{Asks, FindsEdit, IsUnedited, needs}
-use Rattle.tinkey_session.specs.Lines.{Line, Edit as AsksEdit}
+use Rattle.tinkey_session.specs.Lines.{Line, Edit as AsksEdit, Bad}
 use Rattle.tinkey_session.specs.Reading.{seen_line}
 use Rattle.tinkey_session.specs.Serving.{answered, edit_line, edited_reply, last_id, or_refused, refused_line, serve}
 use Rattle.tinkey_session.specs.declared.reply.Reply.TheVariants.{NewId, Refuses}
@@ -77,19 +77,24 @@ pub asks_error : (line : Line) (why : LineRefusal) (result : Result (KeysetEdit 
 asks_error line why (Ok command) is asks = absurd is
 asks_error line why (Err e) is asks = subst (λ w. Asks line (Err w)) (sym is) asks
 
--- a line that needs no keys and isn't an edit is bad, as is a save of a session that saves nowhere
-pub asks_nothing : (line : CodeLine) → needs (seen_line line) ≡ None → ((edit : KeysetEdit (Bor (List ℕ))) → line ≡ lines.Edit edit → ⊥)
+-- a line that is refused before anything is looked at
+pub asks_bad : (why : LineRefusal) → Asks (Bad why) (Err why)
+unfolding serve
+asks_bad why = λ table keys random. refl
+
+-- a line that needs no keys, isn't an edit and isn't bad is a save of a session that saves nowhere
+pub asks_nothing : (line : CodeLine) → needs (seen_line line) ≡ None → ((edit : KeysetEdit (Bor (List ℕ))) → line ≡ lines.Edit edit → ⊥) → ((why : LineRefusal) → line ≡ lines.Bad why → ⊥)
     → Asks (seen_line line) (Err BadLine)
 unfolding serve
-asks_nothing (lines.Seal plain ad) keyless none = clash (sym keyless)
-asks_nothing (lines.Dseal plain ad) keyless none = clash (sym keyless)
-asks_nothing (lines.Open sealed ad) keyless none = clash (sym keyless)
-asks_nothing (lines.Dopen sealed ad) keyless none = clash (sym keyless)
-asks_nothing (lines.Reseal sealed ad) keyless none = clash (sym keyless)
-asks_nothing (lines.Dreseal sealed ad) keyless none = clash (sym keyless)
-asks_nothing (lines.Tag body) keyless none = clash (sym keyless)
-asks_nothing (lines.Verify tag body) keyless none = clash (sym keyless)
-asks_nothing (lines.Derive size input) keyless none = clash (sym keyless)
-asks_nothing (lines.Edit edit) keyless none = absurd (none edit refl)
-asks_nothing (lines.Save name) keyless none = λ table keys random. ap (λ b. cond b None (Some (answered keys random (Refuses BadLine)))) (le-ltb (length random) 0 (omega arith))
-asks_nothing lines.Bad keyless none = λ table keys random. refl
+asks_nothing (lines.Seal plain ad) keyless none other = clash (sym keyless)
+asks_nothing (lines.Dseal plain ad) keyless none other = clash (sym keyless)
+asks_nothing (lines.Open sealed ad) keyless none other = clash (sym keyless)
+asks_nothing (lines.Dopen sealed ad) keyless none other = clash (sym keyless)
+asks_nothing (lines.Reseal sealed ad) keyless none other = clash (sym keyless)
+asks_nothing (lines.Dreseal sealed ad) keyless none other = clash (sym keyless)
+asks_nothing (lines.Tag body) keyless none other = clash (sym keyless)
+asks_nothing (lines.Verify tag body) keyless none other = clash (sym keyless)
+asks_nothing (lines.Derive size input) keyless none other = clash (sym keyless)
+asks_nothing (lines.Edit edit) keyless none other = absurd (none edit refl)
+asks_nothing (lines.Save name) keyless none other = λ table keys random. ap (λ b. cond b None (Some (answered keys random (Refuses BadLine)))) (le-ltb (length random) 0 (omega arith))
+asks_nothing (lines.Bad why) keyless none other = absurd (other why refl)

@@ -14,7 +14,7 @@ use Rattle.tinkey_session.specs.declared.talk.TalkFault.TheVariants as faults
 
 -- a session from its beginning
 abbrev pub begun : Keys → Start
-begun keys output before random = going keys [] 0 output before random
+begun keys output before random = going keys [] 0 false output before random
 
 begun_start : (keys : Keys) → IsStart (begun keys)
 begun_start keys output before drawn more = refl
@@ -35,9 +35,9 @@ pub record Talking (give : RepliesBy) (keys : Keys) (at : Point) (old new : Side
   pub fed : Fed give (begun keys) at (taking taken) (outside_of old before) (outside_of new after)
 
 -- nothing was read
-pub talking_none : (give : RepliesBy) (keys : Keys) (at : Point) (old : Sides) (store : StoreState) → at.keys ≡ keys → at.line ≡ [] → at.count ≡ 0 → Talking give keys at old old store store
+pub talking_none : (give : RepliesBy) (keys : Keys) (at : Point) (old : Sides) (store : StoreState) → at.keys ≡ keys → at.line ≡ [] → at.count ≡ 0 → at.unsaved ≡ false → Talking give keys at old old store store
 unfolding over
-talking_none give keys at old store same line count = record {
+talking_none give keys at old store same line count saved = record {
   taken = [];
   gave = gave_nothing old.source;
   no_read_fault = refl;
@@ -51,7 +51,8 @@ talking_none give keys at old store same line count = record {
     no_draw_fault = refl;
     no_write_fault = refl;
     is = λ answers output before agrees.
-        ap (λ k. going k [] 0 output before []) (sym same) ∙ ap (λ l. going at.keys l 0 output before []) (sym line) ∙ ap (λ n. going at.keys at.line n output before []) (sym count)
+        ap (λ k. going k [] 0 false output before []) (sym same) ∙ ap (λ l. going at.keys l 0 false output before []) (sym line) ∙ ap (λ n. going at.keys at.line n false output before []) (sym count)
+        ∙ ap (λ u. going at.keys at.line at.count u output before []) (sym saved)
         ∙ ap (λ l. from at l before []) (sym (append-nil output)) ∙ ap (λ l. from at (output ++ []) l []) (sym (append-nil before));
   };
 }
@@ -185,7 +186,7 @@ replied_passes x (Some g) limit e = absurd cc
 
 last_passes : {P : Type 0} (give : Replies) (line : List ℕ) (x : Talk) (limit : Limit) → x.stop ≡ goes → (last_line give line x).stop ≡ passes limit → P
 last_passes give [] x limit is e = let k : goes ≡ passes limit = sym is ∙ e in absurd cc
-last_passes give (b ∷ bytes) x limit is e = replied_passes x (give x.asked x.keys x.line x.random) limit e
+last_passes give (b ∷ bytes) x limit is e = replied_passes x (give x.asked x.unsaved x.keys x.line x.random) limit e
 
 -- the end was seen, and the last line ended it
 ends_last : (give : RepliesBy) → AllSettled give → (keys : Keys) (at : Point) (fault : TalkFault) (old mid new : Sides) (s t u : StoreState) → Talking give keys at old mid s t → Gave mid.source new.source [] → Stood mid.source.faults new.source.faults → IsAtEnd new.source

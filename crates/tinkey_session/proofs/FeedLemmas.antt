@@ -149,7 +149,7 @@ byte_grows give x b = by (nat_le count_limit x.count) (b == 10) (nat_le line_lim
   where
     by : (many ends long : Bool) → Begins (byte_by many ends long give x b) x.output x.asked
     by true ends long = begins_as _ _ _ refl refl
-    by false true long = replied_grows x (give x.asked x.keys x.line x.random)
+    by false true long = replied_grows x (give x.asked x.unsaved x.keys x.line x.random)
     by false false true = begins_as _ _ _ refl refl
     by false false false = begins_as _ _ _ refl refl
 
@@ -167,21 +167,21 @@ over_grows give x (b ∷ bytes) =
 
 -- ---- a line
 
-same_going : (keys : Keys) (line line' : List ℕ) (count count' : ℕ) (output output' : List ℕ) (asked : List FileAsked) → line ≡ line' → count ≡ count' → output ≡ output' → going keys line count output asked [] ≡ going keys line' count' output' asked []
-same_going keys line line' count count' output output' asked a b c =
-    ap (λ l. going keys l count output asked []) a ∙ ap (λ n. going keys line' n output asked []) b ∙ ap (λ l. going keys line' count' l asked []) c
+same_going : (keys : Keys) (line line' : List ℕ) (count count' : ℕ) (unsaved : Bool) (output output' : List ℕ) (asked : List FileAsked) → line ≡ line' → count ≡ count' → output ≡ output' → going keys line count unsaved output asked [] ≡ going keys line' count' unsaved output' asked []
+same_going keys line line' count count' unsaved output output' asked a b c =
+    ap (λ l. going keys l count unsaved output asked []) a ∙ ap (λ n. going keys line' n unsaved output asked []) b ∙ ap (λ l. going keys line' count' unsaved l asked []) c
 
 -- what a line gives of the bytes drawn for it
-gave_line : (give : RepliesBy) (keys : Keys) (line text : List ℕ) (last : Keys) (d e : EntropyState) (s t : StoreState) (r : IsReplied give keys line text last d e s t) (answers : StoreAnswers) (before : List FileAsked) → Agrees answers before r.asked
-    → give answers before keys line r.drawn ≡ Some (given r.reply last [] r.asked)
-gave_line give keys line text last d e s t r answers before agrees = ap (give answers before keys line) (sym (append-nil r.drawn)) ∙ r.is answers before agrees []
+gave_line : (give : RepliesBy) (unsaved : Bool) (keys : Keys) (line text : List ℕ) (later : Bool) (last : Keys) (d e : EntropyState) (s t : StoreState) (r : IsReplied give unsaved keys line text later last d e s t) (answers : StoreAnswers) (before : List FileAsked) → Agrees answers before r.asked
+    → give answers before unsaved keys line r.drawn ≡ Some (given r.reply later last [] r.asked)
+gave_line give unsaved keys line text later last d e s t r answers before agrees = ap (give answers before unsaved keys line) (sym (append-nil r.drawn)) ∙ r.is answers before agrees []
 
 -- the line was answered, and its reply written or held back
 pub fed_line : (give : RepliesBy) (old last : Point) (line text written : List ℕ) (a b : Outside) → line ≡ old.line → written ≡ text → last.line ≡ [] → last.count ≡ old.count + 1
-    → IsReplied give old.keys line text last.keys a.entropy b.entropy a.store b.store → HoldsBack a.sink b.sink a.held b.held written → Stood a.sink.faults b.sink.faults
+    → IsReplied give old.unsaved old.keys line text last.unsaved last.keys a.entropy b.entropy a.store b.store → HoldsBack a.sink b.sink a.held b.held written → Stood a.sink.faults b.sink.faults
     → Fed give (from old) last line_ended a b
 fed_line give old last line text written a b is whole cleared counted so held stood =
-    let r : IsReplied give old.keys old.line text last.keys a.entropy b.entropy a.store b.store = subst (λ l. IsReplied give old.keys l text last.keys a.entropy b.entropy a.store b.store) is so in
+    let r : IsReplied give old.unsaved old.keys old.line text last.unsaved last.keys a.entropy b.entropy a.store b.store = subst (λ l. IsReplied give old.unsaved old.keys l text last.unsaved last.keys a.entropy b.entropy a.store b.store) is so in
     record {
       drawn = r.drawn;
       written = written;
@@ -192,28 +192,28 @@ fed_line give old last line text written a b is whole cleared counted so held st
       no_draw_fault = r.stood;
       no_write_fault = stood;
       is = λ answers output before agrees.
-          ap (replied (from old output before r.drawn)) (gave_line give old.keys old.line text last.keys _ _ _ _ r answers before agrees)
-          ∙ same_going last.keys [] last.line (suc old.count) last.count (output ++ reply_text r.reply) (output ++ written) (before ++ r.asked) (sym cleared) (omega (arith, counted)) (ap (λ l. output ++ l) (sym (whole ∙ r.spelled)));
+          ap (replied (from old output before r.drawn)) (gave_line give old.unsaved old.keys old.line text last.unsaved last.keys _ _ _ _ r answers before agrees)
+          ∙ same_going last.keys [] last.line (suc old.count) last.count last.unsaved (output ++ reply_text r.reply) (output ++ written) (before ++ r.asked) (sym cleared) (omega (arith, counted)) (ap (λ l. output ++ l) (sym (whole ∙ r.spelled)));
     }
 
 -- it was answered, but not all of the reply written
-pub torn_line : (give : RepliesBy) (old : Point) (last : Keys) (line text written : List ℕ) (a b : Outside) → line ≡ old.line → written ≡ text
-    → IsReplied give old.keys line text last a.entropy b.entropy a.store b.store → TookPrefix a.sink b.sink (a.held ++ written) → Rose a.sink.faults b.sink.faults
+pub torn_line : (give : RepliesBy) (old : Point) (later : Bool) (last : Keys) (line text written : List ℕ) (a b : Outside) → line ≡ old.line → written ≡ text
+    → IsReplied give old.unsaved old.keys line text later last a.entropy b.entropy a.store b.store → TookPrefix a.sink b.sink (a.held ++ written) → Rose a.sink.faults b.sink.faults
     → Stopped give (from old) line_ended InLine faults.WriteFault a b
-torn_line give old last line text written a b is whole so took rose =
-    let r : IsReplied give old.keys old.line text last a.entropy b.entropy a.store b.store = subst (λ l. IsReplied give old.keys l text last a.entropy b.entropy a.store b.store) is so in
+torn_line give old later last line text written a b is whole so took rose =
+    let r : IsReplied give old.unsaved old.keys old.line text later last a.entropy b.entropy a.store b.store = subst (λ l. IsReplied give old.unsaved old.keys l text later last a.entropy b.entropy a.store b.store) is so in
     torn r.drawn written r.asked refl r.drew took r.asks
     (λ answers output before agrees.
-    let e = ap (replied (from old output before r.drawn)) (gave_line give old.keys old.line text last _ _ _ _ r answers before agrees) in
+    let e = ap (replied (from old output before r.drawn)) (gave_line give old.unsaved old.keys old.line text later last _ _ _ _ r answers before agrees) in
     begins_as _ _ _ (ap (λ x. x.output) e ∙ ap (λ l. output ++ l) (sym (whole ∙ r.spelled))) (ap (λ x. x.asked) e))
     r.stood rose
 
 -- it wants more random bytes
 pub dry_line : (give : RepliesBy) (old : Point) (line : List ℕ) (a b : Outside) → line ≡ old.line → Took a.sink b.sink a.held → Stood a.sink.faults b.sink.faults → a.store ≡ b.store
-    → IsUndrawn give old.keys line a.entropy b.entropy
+    → IsUndrawn give old.unsaved old.keys line a.entropy b.entropy
     → Stopped give (from old) line_ended InLine faults.EntropyFault a b
 dry_line give old line a b is took stood still so =
-    let r : IsUndrawn give old.keys old.line a.entropy b.entropy = subst (λ l. IsUndrawn give old.keys l a.entropy b.entropy) is so in
+    let r : IsUndrawn give old.unsaved old.keys old.line a.entropy b.entropy = subst (λ l. IsUndrawn give old.unsaved old.keys l a.entropy b.entropy) is so in
     dry r.drawn [] [] refl r.gone (none_behind _ _ _ took) still
     (λ answers output before agrees.
     let e = ap (replied (from old output before r.drawn)) (r.undecided answers before) in
@@ -221,14 +221,14 @@ dry_line give old line a b is took stood still so =
     r.rose stood
 
 -- the same, of a session that is as it was
-pub undrawn_as : (give own : RepliesBy) (keys other : Keys) (line : List ℕ) (d e f : EntropyState) → own ≡ give → other ≡ keys → d ≡ e → IsUndrawn own other line d f → IsUndrawn give keys line e f
-undrawn_as give own keys other line d e f g k s so =
-    subst (λ x. IsUndrawn x keys line e f) g (subst (λ x. IsUndrawn own x line e f) k (subst (λ x. IsUndrawn own other line x f) s so))
+pub undrawn_as : (give own : RepliesBy) (unsaved : Bool) (keys other : Keys) (line : List ℕ) (d e f : EntropyState) → own ≡ give → other ≡ keys → d ≡ e → IsUndrawn own unsaved other line d f → IsUndrawn give unsaved keys line e f
+undrawn_as give own unsaved keys other line d e f g k s so =
+    subst (λ x. IsUndrawn x unsaved keys line e f) g (subst (λ x. IsUndrawn own unsaved x line e f) k (subst (λ x. IsUndrawn own unsaved other line x f) s so))
 
 -- and what it gives
-pub replied_as : (give own : RepliesBy) (keys other : Keys) (line text : List ℕ) (last : Keys) (d e f : EntropyState) (s t u : StoreState) → own ≡ give → other ≡ keys → d ≡ e → s ≡ t → IsReplied own other line text last d f s u → IsReplied give keys line text last e f t u
-replied_as give own keys other line text last d e f s t u g k same still so =
-    subst (λ x. IsReplied x keys line text last e f t u) g (subst (λ x. IsReplied own x line text last e f t u) k (subst (λ x. IsReplied own other line text last x f t u) same (subst (λ x. IsReplied own other line text last d f x u) still so)))
+pub replied_as : (give own : RepliesBy) (unsaved : Bool) (keys other : Keys) (line text : List ℕ) (later : Bool) (last : Keys) (d e f : EntropyState) (s t u : StoreState) → own ≡ give → other ≡ keys → d ≡ e → s ≡ t → IsReplied own unsaved other line text later last d f s u → IsReplied give unsaved keys line text later last e f t u
+replied_as give own unsaved keys other line text later last d e f s t u g k same still so =
+    subst (λ x. IsReplied x unsaved keys line text later last e f t u) g (subst (λ x. IsReplied own unsaved x line text later last e f t u) k (subst (λ x. IsReplied own unsaved other line text later last x f t u) same (subst (λ x. IsReplied own unsaved other line text later last d f x u) still so)))
 
 -- memory was refused
 pub full_line : (give : RepliesBy) (takes : Replies → Talk → Talk) (start : Start) (a b : Outside) → Took a.sink b.sink a.held → Stood a.sink.faults b.sink.faults → a.store ≡ b.store → DrewSome a.entropy b.entropy → Stopped give start takes InLine faults.NoMemory a b
@@ -250,7 +250,7 @@ ended_line give old fault s t held d e u v stays still ended =
   where
     by : Ended faults.NoMemory fault s t held → Stopped give (from old) line_ended InLine fault (outside s held e u) (outside t [] e u)
     by (all_told same took stood) = full [] [] [] [] same (drew_nothing e) (none_behind _ _ _ took) refl (refl, refl, refl) refl stood
-    by (cut_off same front rose) = cut_before give line_ended (from old) InLine fault s t held e u same (λ answers output before. replied_grows (from old output before []) (give answers before old.keys old.line [])) front rose
+    by (cut_off same front rose) = cut_before give line_ended (from old) InLine fault s t held e u same (λ answers output before. replied_grows (from old output before []) (give answers before old.unsaved old.keys old.line [])) front rose
 
 -- ---- a byte
 
@@ -351,21 +351,21 @@ full_byte give old byte fault s t held d u (cut_off same front rose) =
     cut_before give (taking (byte ∷ [])) (from old) (InPiece give (from old) (byte ∷ [])) fault s t held d u same (λ answers output before. over_grows (give answers) (from old output before []) (byte ∷ [])) front rose
 
 -- bytes of the line
-over_in_line : (give : Replies) (keys : Keys) (line : List ℕ) (count : ℕ) (output : List ℕ) (before : List FileAsked) (bytes : List ℕ) → count < count_limit → IsInLine bytes → length line + length bytes ≤ line_limit
-    → over give (going keys line count output before []) bytes ≡ going keys (line ++ bytes) count output before []
+over_in_line : (give : Replies) (keys : Keys) (line : List ℕ) (count : ℕ) (unsaved : Bool) (output : List ℕ) (before : List FileAsked) (bytes : List ℕ) → count < count_limit → IsInLine bytes → length line + length bytes ≤ line_limit
+    → over give (going keys line count unsaved output before []) bytes ≡ going keys (line ++ bytes) count unsaved output before []
 unfolding over
-over_in_line give keys line count output before [] less other short = ap (λ l. going keys l count output before []) (sym (append-nil line))
-over_in_line give keys line count output before (b ∷ bytes) less other short =
-    let old : Point = record { keys = keys; line = line; count = count } in
+over_in_line give keys line count unsaved output before [] less other short = ap (λ l. going keys l count unsaved output before []) (sym (append-nil line))
+over_in_line give keys line count unsaved output before (b ∷ bytes) less other short =
+    let old : Point = record { keys = keys; line = line; count = count; unsaved = unsaved } in
     ap (λ x. over give x bytes) (sym (over_byte give old b output before [])
     ∙ by_tests give old b output before [] false false false (lt-leb _ _ less) (other 0 (omega arith)) (lt-leb _ _ (omega arith)))
-    ∙ over_in_line give keys (line ++ b ∷ []) count output before bytes less (λ k h. other (suc k) (omega (arith, h))) (omega (arith, length-append line (b ∷ [])))
-    ∙ ap (λ l. going keys l count output before []) (append_assoc line (b ∷ []) bytes)
+    ∙ over_in_line give keys (line ++ b ∷ []) count unsaved output before bytes less (λ k h. other (suc k) (omega (arith, h))) (omega (arith, length-append line (b ∷ [])))
+    ∙ ap (λ l. going keys l count unsaved output before []) (append_assoc line (b ∷ []) bytes)
 
 pub fed_in_line : (give : RepliesBy) (old last : Point) (bytes : List ℕ) (a : Outside) → old.count < count_limit → IsInLine bytes → length old.line + length bytes ≤ line_limit
-    → last.keys ≡ old.keys → last.count ≡ old.count → last.line ≡ old.line ++ bytes
+    → last.keys ≡ old.keys → last.count ≡ old.count → last.unsaved ≡ old.unsaved → last.line ≡ old.line ++ bytes
     → Fed give (from old) last (taking bytes) a a
-fed_in_line give old last bytes a less other short keys count line = record {
+fed_in_line give old last bytes a less other short keys count unsaved line = record {
   drawn = [];
   written = [];
   asked = [];
@@ -375,9 +375,10 @@ fed_in_line give old last bytes a less other short keys count line = record {
   no_draw_fault = refl;
   no_write_fault = refl;
   is = λ answers output before agrees.
-      over_in_line (give answers) old.keys old.line old.count output before bytes less other short
-      ∙ ap (λ k. going k (old.line ++ bytes) old.count output before []) (sym keys)
-      ∙ same_going last.keys (old.line ++ bytes) last.line old.count last.count output (output ++ []) before (sym line) (sym count) (sym (append-nil output))
+      over_in_line (give answers) old.keys old.line old.count old.unsaved output before bytes less other short
+      ∙ ap (λ k. going k (old.line ++ bytes) old.count old.unsaved output before []) (sym keys)
+      ∙ ap (λ u. going last.keys (old.line ++ bytes) old.count u output before []) (sym unsaved)
+      ∙ same_going last.keys (old.line ++ bytes) last.line old.count last.count last.unsaved output (output ++ []) before (sym line) (sym count) (sym (append-nil output))
       ∙ ap (λ l. from last (output ++ []) l []) (sym (append-nil before));
 }
 
@@ -598,7 +599,7 @@ stopped_in_line give settled old bytes front fault s t held d u less fits within
     let inside : room < front = omega (arith, fits, many) in
     let line : List ℕ = take room bytes in
     let size : length line ≡ room = length-take-le room bytes (omega (arith, some)) in
-    let mid : Point = record { keys = old.keys; line = old.line ++ line; count = old.count } in
+    let mid : Point = record { keys = old.keys; line = old.line ++ line; count = old.count; unsaved = old.unsaved } in
     let full : length mid.line ≡ line_limit = length-append old.line line ∙ omega (arith, size, fits) in
     let byte = slice_index bytes room in
     let here : slice_index (take front bytes) room ≡ byte = get_or-take front bytes room 0 inside in
@@ -606,7 +607,7 @@ stopped_in_line give settled old bytes front fault s t held d u less fits within
     let before : IsInLine line = λ k h. ap (λ b. b == 10) (get_or-take room bytes k 0 (omega (arith, h, size)) ∙ sym (get_or-take front bytes k 0 (omega (arith, h, size, inside)))) ∙ other k (omega (arith, h, size, inside, length-take-le front bytes within)) in
     stopped_piece give give settled old mid line (byte ∷ []) (drop (room + 1) bytes) bytes fault (outside s held d u) (outside s held d u) (outside t [] d u) refl
     (sym (ap (λ l. l ++ drop (room + 1) bytes) (sym (take_more bytes room 0 some)) ∙ take-append-drop (room + 1) bytes))
-    (fed_in_line give old mid line (outside s held d u) less before (omega (arith, size, fits)) refl refl refl)
+    (fed_in_line give old mid line (outside s held d u) less before (omega (arith, size, fits)) refl refl refl refl)
     (stopped_long give mid byte fault s t held d u less newline (omega (arith, full)) ended)
 
 -- the first byte is a newline

@@ -245,7 +245,7 @@ few-line table keys (Derive size input) random k enough = few-unless (unfit keys
     few-computed keys random (derived_reply size) (derive_answer keys table input size) _ (derived_there table keys input size (has_primary_key table Prf keys k fit)))
 few-line table keys (AsksEdit edit) random k enough = few-asked keys random edit enough
 few-line table keys (Save name outcome) random k enough = few-saved keys random outcome enough
-few-line table keys Bad random k enough = few-answered keys random _
+few-line table keys (Bad why) random k enough = few-answered keys random _
 
 pub lines_draw_few : LinesDrawFew
 unfolding Few

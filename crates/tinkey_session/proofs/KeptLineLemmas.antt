@@ -71,7 +71,7 @@ asked_keeps P keys random asked x p each e = by (edit_named asked) (named_follow
 -- ---- every line
 
 -- where a line asks for an edit, what that leaves has this
-abbrev EachEditOf : (Keys → Type 0) → Keys → (random : List ℕ) → Line → Type 0
+abbrev pub EachEditOf : (Keys → Type 0) → Keys → (random : List ℕ) → Line → Type 0
 EachEditOf P keys random (AsksEdit asked) = EachEdit P keys random asked
 EachEditOf P keys random line = Unit {0}
 
@@ -81,7 +81,7 @@ handled_keeps p table keys random served x e same = elim (handle_cases (unfit ke
   | inr other ↦ ap (λ y. y.keys) other.1
 ]
 
-line_keeps : (P : Keys → Type 0) (table : Table) (keys : Keys) (line : Line) (random : List ℕ) (x : Served) → P keys → EachEditOf P keys random line → serve table keys line random ≡ Some x → P x.keys
+pub line_keeps : (P : Keys → Type 0) (table : Table) (keys : Keys) (line : Line) (random : List ℕ) (x : Served) → P keys → EachEditOf P keys random line → serve table keys line random ≡ Some x → P x.keys
 unfolding serve
 line_keeps P table keys (Seal plain ad) random x p each e = subst P (handled_keeps Aead table keys random _ x e
     (λ k. ap (λ y. y.keys) (map_some (sealed_reply keys) (seal_answer keys table plain ad random) x k).2)) p
@@ -95,7 +95,7 @@ line_keeps P table keys (Verify tag body) random x p each e = subst P (handled_k
 line_keeps P table keys (Derive size input) random x p each e = subst P (handled_keeps Prf table keys random _ x e (computed_keeps keys random _ (derive_answer keys table input size) x)) p
 line_keeps P table keys (AsksEdit asked) random x p each e = asked_keeps P keys random asked x p each e
 line_keeps P table keys (Save name outcome) random x p each e = subst P (saved_keeps keys random outcome x e) p
-line_keeps P table keys Bad random x p each e = subst P (answer_keeps keys random _ x e) p
+line_keeps P table keys (Bad why) random x p each e = subst P (answer_keeps keys random _ x e) p
 
 -- what holds of each edit that a line may ask for holds of the line's
 each_edit_of : (P : Keys → Type 0) (keys : Keys) (random : List ℕ) (line : Line) → ((asked : EditOf (List ℕ)) → line ≡ AsksEdit asked → EachEdit P keys random asked) → EachEditOf P keys random line
@@ -110,7 +110,7 @@ each_edit_of P keys random (Verify tag body) each = tt
 each_edit_of P keys random (Derive size input) each = tt
 each_edit_of P keys random (AsksEdit asked) each = each asked refl
 each_edit_of P keys random (Save name outcome) each = tt
-each_edit_of P keys random Bad each = tt
+each_edit_of P keys random (Bad why) each = tt
 
 -- a refused line leaves the keyset
 by_reply : (P : Keys → Type 0) (table : Table) (keys : Keys) (line : Line) (random : List ℕ) (x : Served) (reply : Reply) → P keys → serve table keys line random ≡ Some x → x.reply ≡ reply → (IsAccepted reply → P x.keys) → P x.keys
@@ -218,7 +218,7 @@ line_of_other keys r prefix has held (Verify tag body) spares = tt
 line_of_other keys r prefix has held (Derive size input) spares = tt
 line_of_other keys r prefix has held (AsksEdit asked) spares = record { spares = spares; no_other = no_other keys r prefix asked held.apart held.words has held.key }
 line_of_other keys r prefix has held (Save name outcome) spares = tt
-line_of_other keys r prefix has held Bad spares = tt
+line_of_other keys r prefix has held (Bad why) spares = tt
 
 others_spare : (table : Table) (r : Record) (prefix : List ℕ) → prefix_of r ≡ Some prefix → (lines : List Line) (keys : Keys) (random : List ℕ) → IsHeld r keys → EachAcceptedLine table (λ keys. Spares r.id) keys lines random → EachAcceptedLine table (SparesKey r) keys lines random
 unfolding EachAcceptedLine

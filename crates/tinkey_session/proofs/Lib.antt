@@ -28,6 +28,7 @@ pub mod TurnLemmas
 pub mod UnsavedLemmas
 pub mod SaveLemmas
 pub mod SavedLemmas
+pub mod SavedReplyLemmas
 pub mod SessionLemmas
 pub mod StoreLemmas
 pub mod StoredLemmas

@@ -9,6 +9,7 @@ use Rattle.tinkey_cmds.specs.Edits.{Add, Rotate, Promote, Enable, Disable, Destr
 use Rattle.tinkey_session.specs.Lines.{Seal, Dseal, Open, Dopen, Reseal, Dreseal, Tag, Verify, Derive, Edit, Save, nowhere, Bad, line_of}
 use Rattle.tinkey_session.specs.Session.{lines_of}
 use Rattle.tinkey_words.specs.Rows.{is_temporary, is_value}
+use Rattle.tinkey_session.specs.declared.reply.LineRefusal.TheVariants.{BadLine}
 
 -- what unfolds to read a line that is a literal
 unfoldable pub line_on_literals : ⊤
@@ -47,18 +48,18 @@ names = (refl, refl, refl)
 
 -- too few words, too many, and another space than the one between words
 counts :
-    (line_of [] ≡ Bad) × (line_of (codes "hello") ≡ Bad) × (line_of (codes "tag") ≡ Bad)
-    × (line_of (codes "seal -") ≡ Bad) × (line_of (codes "tag - -") ≡ Bad) × (line_of (codes "seal - - -") ≡ Bad)
-    × (line_of (codes "derive 1") ≡ Bad) × (line_of (codes "add A B") ≡ Bad)
-    × (line_of (codes "verify 00  01") ≡ Bad) × (line_of (codes " tag -") ≡ Bad) × (line_of (codes "tag - ") ≡ Bad)
-    × (line_of (codes "tag ") ≡ Bad) × (line_of (codes "add ") ≡ Bad) × (line_of (codes "tag -\r") ≡ Bad)
+    (line_of [] ≡ Bad BadLine) × (line_of (codes "hello") ≡ Bad BadLine) × (line_of (codes "tag") ≡ Bad BadLine)
+    × (line_of (codes "seal -") ≡ Bad BadLine) × (line_of (codes "tag - -") ≡ Bad BadLine) × (line_of (codes "seal - - -") ≡ Bad BadLine)
+    × (line_of (codes "derive 1") ≡ Bad BadLine) × (line_of (codes "add A B") ≡ Bad BadLine)
+    × (line_of (codes "verify 00  01") ≡ Bad BadLine) × (line_of (codes " tag -") ≡ Bad BadLine) × (line_of (codes "tag - ") ≡ Bad BadLine)
+    × (line_of (codes "tag ") ≡ Bad BadLine) × (line_of (codes "add ") ≡ Bad BadLine) × (line_of (codes "tag -\r") ≡ Bad BadLine)
 unfolding line_on_literals
 counts = (refl, refl, refl, refl, refl, refl, refl, refl, refl, refl, refl, refl, refl, refl)
 
 -- a new file has a name, which is no dash and no temporary name
 files :
-    (line_of (codes "save ") ≡ Bad) × (line_of (codes "save -") ≡ Bad) × (line_of (codes "save ./-") ≡ Save (codes "./-") nowhere)
-    × (line_of (codes "save .tinkey-new-0") ≡ Bad) × (line_of (codes "save a/.tinkey-new-0") ≡ Bad)
+    (line_of (codes "save ") ≡ Bad BadLine) × (line_of (codes "save -") ≡ Bad BadLine) × (line_of (codes "save ./-") ≡ Save (codes "./-") nowhere)
+    × (line_of (codes "save .tinkey-new-0") ≡ Bad BadLine) × (line_of (codes "save a/.tinkey-new-0") ≡ Bad BadLine)
     × (line_of (codes "save .tinkey-new-0/a") ≡ Save (codes ".tinkey-new-0/a") nowhere)
 unfolding line_on_literals
 files = (refl, refl, refl, refl, refl, refl)
@@ -66,10 +67,10 @@ files = (refl, refl, refl, refl, refl, refl)
 -- words of another form: a name in capitals, an odd number of digits, what is no digit, a number that is too
 -- long or too large, or has a sign, and bytes that aren't UTF-8
 words :
-    (line_of (codes "SEAL - -") ≡ Bad) × (line_of (codes "open 0 -") ≡ Bad) × (line_of (codes "tag 0g") ≡ Bad) × (line_of (codes "tag --") ≡ Bad)
-    × (line_of (codes "disable 4294967296") ≡ Bad) × (line_of (codes "disable 00000000007") ≡ Bad) × (line_of (codes "disable +7") ≡ Bad)
-    × (line_of (codes "disable -7") ≡ Bad) × (line_of (codes "derive - 00") ≡ Bad) × (line_of (codes "derive 1 1") ≡ Bad)
-    × (line_of (codes "add " ++ 255 ∷ []) ≡ Bad) × (line_of (codes "add " ++ 195 ∷ []) ≡ Bad)
+    (line_of (codes "SEAL - -") ≡ Bad BadLine) × (line_of (codes "open 0 -") ≡ Bad BadLine) × (line_of (codes "tag 0g") ≡ Bad BadLine) × (line_of (codes "tag --") ≡ Bad BadLine)
+    × (line_of (codes "disable 4294967296") ≡ Bad BadLine) × (line_of (codes "disable 00000000007") ≡ Bad BadLine) × (line_of (codes "disable +7") ≡ Bad BadLine)
+    × (line_of (codes "disable -7") ≡ Bad BadLine) × (line_of (codes "derive - 00") ≡ Bad BadLine) × (line_of (codes "derive 1 1") ≡ Bad BadLine)
+    × (line_of (codes "add " ++ 255 ∷ []) ≡ Bad BadLine) × (line_of (codes "add " ++ 195 ∷ []) ≡ Bad BadLine)
 unfolding line_on_literals
 words = (refl, refl, refl, refl, refl, refl, refl, refl, refl, refl, refl, refl)
 

@@ -6,6 +6,7 @@ use Rattle.std.specs.Str.{IsUtf8, is_utf8}
 use Rattle.std.proofs.lemmas.List.Splits.{length-slice_split, slice_split_first}
 use Rattle.std.proofs.lemmas.Str.{IsUtf8-from_is_utf8, is_utf8-from_IsUtf8}
 use Rattle.tinkey_session.specs.Lines.{Bad, line_of, line_of_words, words_of}
+use Rattle.tinkey_session.specs.declared.reply.LineRefusal.TheVariants.{BadLine}
 
 -- ---- words
 
@@ -35,23 +36,23 @@ cut_words text cut front back is some =
     ∙ ap (λ t. front.now ∷ words_of t) (sym parts.2)
 
 -- a text has a word, so behind three words there are four
-four_words : (name a b : List ℕ) (later : List (List ℕ)) → 1 ≤ length later → Bad ≡ line_of_words (name ∷ a ∷ b ∷ later)
+four_words : (name a b : List ℕ) (later : List (List ℕ)) → 1 ≤ length later → Bad BadLine ≡ line_of_words (name ∷ a ∷ b ∷ later)
 four_words name a b [] some = absurd (omega (arith, some))
 four_words name a b (word ∷ later) some = refl
 
-pub too_many : (name a b text : List ℕ) → Bad ≡ line_of_words (name ∷ a ∷ b ∷ words_of text)
+pub too_many : (name a b text : List ℕ) → Bad BadLine ≡ line_of_words (name ∷ a ∷ b ∷ words_of text)
 too_many name a b text = let count = length-slice_split is_space text in four_words name a b (words_of text) (omega (arith, count))
 
 -- ---- text
 
 pub text_line : (line text : List ℕ) → text ≡ line → IsUtf8 line → line_of_words (words_of text) ≡ line_of line
 unfolding line_of
-text_line line text same utf8 = ap (λ t. line_of_words (words_of t)) same ∙ ap (λ b. cond b (line_of_words (words_of line)) Bad) (sym (is_utf8-from_IsUtf8 line utf8))
+text_line line text same utf8 = ap (λ t. line_of_words (words_of t)) same ∙ ap (λ b. cond b (line_of_words (words_of line)) (Bad BadLine)) (sym (is_utf8-from_IsUtf8 line utf8))
 
-pub other_line : (line : List ℕ) → (IsUtf8 line → ⊥) → Bad ≡ line_of line
+pub other_line : (line : List ℕ) → (IsUtf8 line → ⊥) → Bad BadLine ≡ line_of line
 unfolding line_of
 other_line line other = by (is_utf8 line) refl
   where
-    by : (b : Bool) → is_utf8 line ≡ b → Bad ≡ cond b (line_of_words (words_of line)) Bad
+    by : (b : Bool) → is_utf8 line ≡ b → Bad BadLine ≡ cond b (line_of_words (words_of line)) (Bad BadLine)
     by true e = absurd (other (IsUtf8-from_is_utf8 line e))
     by false e = refl

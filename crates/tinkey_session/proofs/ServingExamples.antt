@@ -32,7 +32,7 @@ abbrev IsRefused : Keys → Line → (random left : List ℕ) → LineRefusal �
 IsRefused before line random left why = serve standard_table before line random ≡ Some (answered before left (Refuses why))
 
 refused :
-    IsRefused keys Bad (1 ∷ []) (1 ∷ []) BadLine
+    IsRefused keys (Bad BadLine) (1 ∷ []) (1 ∷ []) BadLine
     × IsRefused keys (Edit (Add (codes "AES128_GCN"))) [] [] (Refused UnknownTemplate)
     × IsRefused keys (Edit (Rotate (codes "ECDSA_P256"))) [] [] (Refused AsymmetricTemplate)
     × IsRefused keys (Edit (Add (codes "AES256_SIV"))) (1 ∷ []) (1 ∷ []) (Refused (Command MixedPrimitive))

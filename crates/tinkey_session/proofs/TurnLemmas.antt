@@ -169,7 +169,7 @@ serve_leaves table keys (Verify tag body) random x e = handled Mac table keys ra
 serve_leaves table keys (Derive size input) random x e = handled Prf table keys random _ x e (computed_keeps keys random _ (derive_answer keys table input size) x)
 serve_leaves table keys (AsksEdit edit) random x e = asked_leaves keys edit random x e
 serve_leaves table keys (Save name outcome) random x e = inl (saved_keeps keys random outcome x e)
-serve_leaves table keys Bad random x e = inl (answer_keeps keys random _ x e)
+serve_leaves table keys (Bad why) random x e = inl (answer_keeps keys random _ x e)
 
 pub serve_edits : (table : Table) (keys : Keys) (line : Line) (random : List ℕ) (x : Served) → serve table keys line random ≡ Some x → IsEdited keys x.keys
 serve_edits table keys line random x e = elim (serve_leaves table keys line random x e) [

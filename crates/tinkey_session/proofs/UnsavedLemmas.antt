@@ -47,19 +47,19 @@ some_session talk result old new before after t =
 
 -- ---- lines
 
-unsaved : (answers : StoreAnswers) (before : List FileAsked) (keys : Keys) (random : List ℕ) (most : ℕ) (line : Line) → IsWithin most line → resolved no_form answers before keys random line ≡ line
-unsaved answers before keys random most (Save name outcome) is = ap (Save name) (sym is)
-unsaved answers before keys random most (Seal plain ad) is = refl
-unsaved answers before keys random most (Dseal plain ad) is = refl
-unsaved answers before keys random most (Open sealed ad) is = refl
-unsaved answers before keys random most (Dopen sealed ad) is = refl
-unsaved answers before keys random most (Reseal sealed ad) is = refl
-unsaved answers before keys random most (Dreseal sealed ad) is = refl
-unsaved answers before keys random most (Tag body) is = refl
-unsaved answers before keys random most (Verify tag body) is = refl
-unsaved answers before keys random most (Derive size input) is = refl
-unsaved answers before keys random most (Edit edit) is = refl
-unsaved answers before keys random most Bad is = refl
+not_saved : (answers : StoreAnswers) (before : List FileAsked) (unsaved : Bool) (keys : Keys) (random : List ℕ) (most : ℕ) (line : Line) → IsWithin most line → resolved no_form answers before unsaved keys random line ≡ line
+not_saved answers before unsaved keys random most (Save name outcome) is = ap (Save name) (sym is)
+not_saved answers before unsaved keys random most (Seal plain ad) is = refl
+not_saved answers before unsaved keys random most (Dseal plain ad) is = refl
+not_saved answers before unsaved keys random most (Open sealed ad) is = refl
+not_saved answers before unsaved keys random most (Dopen sealed ad) is = refl
+not_saved answers before unsaved keys random most (Reseal sealed ad) is = refl
+not_saved answers before unsaved keys random most (Dreseal sealed ad) is = refl
+not_saved answers before unsaved keys random most (Tag body) is = refl
+not_saved answers before unsaved keys random most (Verify tag body) is = refl
+not_saved answers before unsaved keys random most (Derive size input) is = refl
+not_saved answers before unsaved keys random most (Edit edit) is = refl
+not_saved answers before unsaved keys random most (Bad why) is = refl
 
 no_files : (most : ℕ) (line : Line) → IsWithin most line → files_of line ≡ []
 no_files most (Save name outcome) is = ap (λ o. files_of (Save name o)) is
@@ -73,10 +73,10 @@ no_files most (Tag body) is = refl
 no_files most (Verify tag body) is = refl
 no_files most (Derive size input) is = refl
 no_files most (Edit edit) is = refl
-no_files most Bad is = refl
+no_files most (Bad why) is = refl
 
 same_replies : (table : Table) (answers : StoreAnswers) → saving table no_form answers ≡ by_lines table
-same_replies table answers = fun_ext (λ before. fun_ext (λ keys. fun_ext (λ line. fun_ext (λ random. ap (λ l. gives table keys l random) (unsaved answers before keys random (length line) (line_of line) (line_within line))))))
+same_replies table answers = fun_ext (λ before. fun_ext (λ unsaved. fun_ext (λ keys. fun_ext (λ line. fun_ext (λ random. ap (λ l. gives table unsaved keys l random) (not_saved answers before unsaved keys random (length line) (line_of line) (line_within line)))))))
 
 lines_ask_none : (lines : List (List ℕ)) → flat_map files_of (map line_of lines) ≡ []
 lines_ask_none [] = refl

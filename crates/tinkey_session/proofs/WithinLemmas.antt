@@ -11,6 +11,7 @@ use Rattle.tinkey_cmds.specs.Edits.{Add, Rotate, Promote, Enable, Disable, Destr
 use Rattle.tink_base.specs.Decimal.{number_in}
 use Rattle.tinkey_session.specs.Lines.{Line, Seal, Dseal, Open, Dopen, Reseal, Dreseal, Tag, Verify, Derive, Edit, Save, nowhere, Bad, bytes_in, file_in, line_of, line_of_words, line_with_bytes, line_with_id, line_with_one, line_with_two, name_in, with_one, with_two, words_of}
 use Rattle.tinkey_session.specs.Reading.{IsWithin}
+use Rattle.tinkey_session.specs.declared.reply.LineRefusal.TheVariants.{BadLine}
 
 -- ---- words
 
@@ -60,7 +61,7 @@ bytes_fit most word le = by (bytes_eq word (codes "-")) (length word == 0)
 id_within : (most : ℕ) (name : List ℕ) (id : ℕ) → IsWithin most (line_with_id name id)
 id_within most name id = by (bytes_eq name (codes "promote")) (bytes_eq name (codes "enable")) (bytes_eq name (codes "disable")) (bytes_eq name (codes "destroy")) (bytes_eq name (codes "delete"))
   where
-    by : (a b c d e : Bool) → IsWithin most (cond a (Edit (Promote id)) (cond b (Edit (Enable id)) (cond c (Edit (Disable id)) (cond d (Edit (Destroy id)) (cond e (Edit (Delete id)) Bad)))))
+    by : (a b c d e : Bool) → IsWithin most (cond a (Edit (Promote id)) (cond b (Edit (Enable id)) (cond c (Edit (Disable id)) (cond d (Edit (Destroy id)) (cond e (Edit (Delete id)) (Bad BadLine))))))
     by true b c d e = tt
     by false true c d e = tt
     by false false true d e = tt
@@ -88,7 +89,7 @@ one_within most name a le = by (bytes_eq name (codes "tag")) (bytes_eq name (cod
 both_within : (most : ℕ) (name a b : List ℕ) → length a ≤ most → length b ≤ most → IsWithin most (line_with_bytes name a b)
 both_within most name a b le less = by (bytes_eq name (codes "seal")) (bytes_eq name (codes "open")) (bytes_eq name (codes "dseal")) (bytes_eq name (codes "dopen")) (bytes_eq name (codes "verify")) (bytes_eq name (codes "reseal")) (bytes_eq name (codes "dreseal"))
   where
-    by : (c d e f g h i : Bool) → IsWithin most (cond c (Seal a b) (cond d (Open a b) (cond e (Dseal a b) (cond f (Dopen a b) (cond g (Verify a b) (cond h (Reseal a b) (cond i (Dreseal a b) Bad)))))))
+    by : (c d e f g h i : Bool) → IsWithin most (cond c (Seal a b) (cond d (Open a b) (cond e (Dseal a b) (cond f (Dopen a b) (cond g (Verify a b) (cond h (Reseal a b) (cond i (Dreseal a b) (Bad BadLine))))))))
     by true d e f g h i = (le, less)
     by false true e f g h i = (le, less)
     by false false true f g h i = (le, less)
@@ -126,7 +127,7 @@ pub line_within : (line : List ℕ) → IsWithin (length line) (line_of line)
 unfolding line_of
 line_within line = by (is_utf8 line)
   where
-    by : (t : Bool) → IsWithin (length line) (cond t (line_of_words (words_of line)) Bad)
+    by : (t : Bool) → IsWithin (length line) (cond t (line_of_words (words_of line)) (Bad BadLine))
     by true = words_within (length line) (words_of line) (short_words line (length line) (omega arith))
     by false = tt
 
@@ -147,7 +148,7 @@ within_limit least most (Verify tag body) le is = let a = is.0 in let b = is.1 i
 within_limit least most (Derive size input) le is = omega (arith, is, le)
 within_limit least most (Edit edit) le is = tt
 within_limit least most (Save name outcome) le is = is
-within_limit least most Bad le is = tt
+within_limit least most (Bad why) le is = tt
 
 pub all_within : {A E : Type 0} (seen : A → Line) (line : List ℕ) (r : Result A E) → IfOk r (λ read. seen read ≡ line_of line) → IfOk r (λ read. IsWithin (length line) (seen read))
 all_within seen line (Ok read) e = read_within line (seen read) e

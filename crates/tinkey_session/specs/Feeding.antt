@@ -9,7 +9,7 @@
 --                 ended the session
 --
 -- What is said of a session here holds under any store that answers as the one at hand did.
-use Rattle.std.specs.Prelude.{◌≡◌, ℕ, ◌+◌, ◌*◌, ◌<◌, ◌==◌, List, [], ◌++◌, length, slice_index, true, false, Some, None}
+use Rattle.std.specs.Prelude.{◌≡◌, ℕ, ◌+◌, ◌*◌, ◌<◌, ◌==◌, Bool, List, [], ◌++◌, length, slice_index, true, false, Some, None}
 use Rattle.keyset_model.specs.Keyset.{Keys}
 use Rattle.tink_spec.specs.Files.{StoreState}
 use Rattle.tink_spec.specs.Outside.{SinkState, EntropyState, Drew, DrewLosing, Rose, Stood, Took, TookPrefix}
@@ -58,19 +58,21 @@ RepliesBy = StoreAnswers → Replies
 abbrev pub Start : Type 0
 Start = (output : List ℕ) (before : List FileAsked) (random : List ℕ) → Talk
 
--- the keyset, the line so far, and the count of lines before it
+-- the keyset, the line so far, the count of lines before it, and whether an accepted edit among them stands that no file
+-- has
 pub record Point : Type 0 where
   pub keys : Keys
   pub line : List ℕ
   pub count : ℕ
+  pub unsaved : Bool
 
--- where a session stands: keyset, line so far, lines before it
-abbrev pub point : (keys : Keys) (line : List ℕ) (count : ℕ) → Point
-point keys line count = record { keys = keys; line = line; count = count }
+-- where a session stands: keyset, line so far, lines before it, and whether the keyset isn't saved
+abbrev pub point : (keys : Keys) (line : List ℕ) (count : ℕ) (unsaved : Bool) → Point
+point keys line count unsaved = record { keys = keys; line = line; count = count; unsaved = unsaved }
 
 -- a session that goes on from there
 abbrev pub from : Point → Start
-from at output before random = going at.keys at.line at.count output before random
+from at output before random = going at.keys at.line at.count at.unsaved output before random
 
 -- It grows with each byte taken.
 abbrev pub progress : (count : ℕ) (line : List ℕ) → ℕ
@@ -97,13 +99,17 @@ abbrev pub IsInLine : List ℕ → Type 0
 IsInLine bytes = (k : ℕ) → k < length bytes → (slice_index bytes k == 10) ≡ false
 
 -- the reply to a line, with the file that it asked for, if it did
-abbrev pub given : Reply → (last : Keys) → (left : List ℕ) → List FileAsked → Given
-given reply last left asked =
-    record { served = record { reply = reply; keys = last; left = left }; asked = asked }
+abbrev pub given : Reply → (unsaved : Bool) → (last : Keys) → (left : List ℕ) → List FileAsked → Given
+given reply unsaved last left asked = record {
+  served = record { reply = reply; keys = last; left = left };
+  asked = asked;
+  unsaved = unsaved;
+}
 
--- a line gives this text of a reply, and this keyset is there after it
-pub record IsReplied (give : RepliesBy) (keys : Keys) (line text : List ℕ) (last : Keys)
-    (old new : EntropyState) (before after : StoreState) : Type 0 where
+-- A line gives this text of a reply, and this keyset is there after it. `unsaved` and `later` say whether an accepted
+-- edit stands that no file has, before the line and after it.
+pub record IsReplied (give : RepliesBy) (unsaved : Bool) (keys : Keys) (line text : List ℕ) (later : Bool)
+    (last : Keys) (old new : EntropyState) (before after : StoreState) : Type 0 where
   pub reply : Reply
   pub spelled : text ≡ reply_text reply
   pub drawn : List ℕ
@@ -112,20 +118,20 @@ pub record IsReplied (give : RepliesBy) (keys : Keys) (line text : List ℕ) (la
   pub asked : List FileAsked
   pub asks : Asks asked before after
   pub is : (answers : StoreAnswers) (first : List FileAsked) → Agrees answers first asked → (more : List ℕ)
-      → give answers first keys line (drawn ++ more) ≡ Some (given reply last more asked)
+      → give answers first unsaved keys line (drawn ++ more) ≡ Some (given reply later last more asked)
 
 -- the entropy failed, and the line wants more than was drawn, whatever the store would answer
-pub record IsUndrawn (give : RepliesBy) (keys : Keys) (line : List ℕ) (old new : EntropyState)
+pub record IsUndrawn (give : RepliesBy) (unsaved : Bool) (keys : Keys) (line : List ℕ) (old new : EntropyState)
     : Type 0 where
   pub rose : Rose old.faults new.faults
   pub drawn : List ℕ
   pub gone : DrewLosing old new drawn
-  pub undecided : (answers : StoreAnswers) (first : List FileAsked) → give answers first keys line drawn ≡ None
+  pub undecided : (answers : StoreAnswers) (first : List FileAsked) → give answers first unsaved keys line drawn ≡ None
 
 -- why a line has no reply
-abbrev pub IsUnreplied : RepliesBy → Keys → (line : List ℕ) → LineFault → (old new : EntropyState) → Type 0
-IsUnreplied give keys line line_faults.EntropyFault old new = IsUndrawn give keys line old new
-IsUnreplied give keys line line_faults.NoMemory old new = DrewSome old new
+abbrev pub IsUnreplied : RepliesBy → (unsaved : Bool) → Keys → (line : List ℕ) → LineFault → (old new : EntropyState) → Type 0
+IsUnreplied give unsaved keys line line_faults.EntropyFault old new = IsUndrawn give unsaved keys line old new
+IsUnreplied give unsaved keys line line_faults.NoMemory old new = DrewSome old new
 
 -- ---- a piece
 

@@ -47,8 +47,8 @@ pub data Line : Type 0 where
   Edit : (edit : EditOf (List ℕ)) → Line
   -- the keyset as it is becomes a new file of this name, and this becomes of it
   Save : (name : List ℕ) (outcome : Outcome) → Line
-  -- any other line
-  Bad : Line
+  -- a line that is refused before anything is looked at: for its form, or since the keyset isn't saved
+  Bad : (why : LineRefusal) → Line
 
 -- ---- words
 
@@ -81,12 +81,12 @@ file_in word = if is_value forms.NewFile word then Some word else None
 -- the line of what a word spells
 abbrev pub with_one : {A : Type 0} → (A → Line) → Option A → Line
 with_one asks (Some a) = asks a
-with_one asks None = Bad
+with_one asks None = Bad BadLine
 
 -- of what two words spell
 abbrev pub with_two : {A B : Type 0} → (A → B → Line) → Option A → Option B → Line
 with_two asks (Some a) word = with_one (asks a) word
-with_two asks None word = Bad
+with_two asks None word = Bad BadLine
 
 -- the lines of a name and a number
 abbrev pub line_with_id : (name : List ℕ) → (id : ℕ) → Line
@@ -96,7 +96,7 @@ line_with_id name id =
     else (if bytes_eq name (codes "disable") then Edit (Disable id)
     else (if bytes_eq name (codes "destroy") then Edit (Destroy id)
     else (if bytes_eq name (codes "delete") then Edit (Delete id)
-    else Bad))))
+    else Bad BadLine))))
 
 -- the lines of a name and one word
 abbrev pub line_with_one : (name a : List ℕ) → Line
@@ -117,7 +117,7 @@ line_with_bytes name a b =
     else (if bytes_eq name (codes "verify") then Verify a b
     else (if bytes_eq name (codes "reseal") then Reseal a b
     else (if bytes_eq name (codes "dreseal") then Dreseal a b
-    else Bad))))))
+    else Bad BadLine))))))
 
 -- the lines of a name and two words
 abbrev pub line_with_two : (name a b : List ℕ) → Line
@@ -129,8 +129,8 @@ line_with_two name a b =
 abbrev pub line_of_words : List (List ℕ) → Line
 line_of_words (name ∷ a ∷ []) = line_with_one name a
 line_of_words (name ∷ a ∷ b ∷ []) = line_with_two name a b
-line_of_words _ = Bad
+line_of_words _ = Bad BadLine
 
 -- what a line asks; one that isn't UTF-8 is bad
 unfoldable pub line_of : List ℕ → Line
-line_of text = if is_utf8 text then line_of_words (words_of text) else Bad
+line_of text = if is_utf8 text then line_of_words (words_of text) else Bad BadLine

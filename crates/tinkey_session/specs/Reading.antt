@@ -19,7 +19,7 @@ seen_line (lines.Verify tag body) = Verify tag body
 seen_line (lines.Derive size input) = Derive size input
 seen_line (lines.Edit edit) = Edit (seen_by (λ name. name.now) edit)
 seen_line (lines.Save name) = Save name.now nowhere
-seen_line lines.Bad = Bad
+seen_line (lines.Bad why) = Bad why
 
 -- a name, where there is one, as its bytes
 abbrev pub seen_name : Option (Bor (List ℕ)) → Option (List ℕ)

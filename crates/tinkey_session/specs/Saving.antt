@@ -1,32 +1,35 @@
 -- Saving, in a session that has a store: the keyset is written first, which may draw random bytes, and then a new file
 -- is asked for.
 --
---   Form        how a keyset is written
+--   Form        how a session saves
 --   FileAsked   a file that was asked for, and why it wasn't made, if it wasn't
 --   StoreAnswers  what a store answers, by the files asked for before
 --   outcome_of  what becomes of a keyset that is to be saved
---   resolved    a line, with what becomes of the keyset if it saves it
+--   makes       whether a line seals or tags
+--   resolved    a line, with what becomes of the keyset if it saves it, or refused while the keyset isn't saved
 --   by_files    what a store answers that holds these files, and never fails
 --   Asks        what asking for files did to the store, one after another
 --   Agrees      a store answers as this one did
-use Rattle.std.specs.Prelude.{◌≡◌, ℕ, List, [], ◌∷◌, ◌++◌, take, nat_le, Option, Some, None, Result, Ok, Err, if◌then◌else◌}
+use Rattle.std.specs.Prelude.{◌≡◌, ℕ, List, [], ◌∷◌, ◌++◌, take, nat_le, Bool, true, false, ◌&&◌, Option, Some, None, Result, Ok, Err, if◌then◌else◌}
 use Rattle.std.specs.FinMap as map
 use Rattle.std.specs.Option.{is_none}
 use Rattle.std.specs.Result.{result_ok}
 use Rattle.keyset_model.specs.Keyset.{Keys}
 use Rattle.tink_spec.specs.Files.{Files, StoreState, HoldsSome, Added, MayAdd}
 use Rattle.tink_spec.specs.Outside.{Rose, Stood}
-use Rattle.tinkey_session.specs.Lines.{Line, Save, Outcome}
+use Rattle.tinkey_session.specs.Lines.{Line, Seal, Dseal, Reseal, Dreseal, Tag, Save, Outcome, Bad}
 use Rattle.tinkey_session.specs.declared.reply.LineRefusal.{LineRefusal}
-use Rattle.tinkey_session.specs.declared.reply.LineRefusal.TheVariants.{BadLine, OutputExists, StoreFault}
+use Rattle.tinkey_session.specs.declared.reply.LineRefusal.TheVariants.{BadLine, NotSaved, OutputExists, StoreFault}
 
 -- ---- writing
 
--- How a keyset is written, in a form, in clear or under a master: how many random bytes that draws, and what it becomes
--- with these, the bytes of a file or a refusal. They are an IV, of which 16 bytes are the most that count.
+-- How a session saves. A keyset is written in a form, in clear or under a master: how many random bytes that draws, and
+-- what it becomes with these, the bytes of a file or a refusal. They are an IV, of which 16 bytes are the most that
+-- count. `saved_only` says whether lines that seal or tag are refused while the keyset isn't saved.
 pub record Form : Type 0 where
   pub size : Keys → ℕ
   pub written : Keys → (iv : List ℕ) → Result (List ℕ) LineRefusal
+  pub saved_only : Bool
 
 -- how many random bytes a keyset draws
 abbrev pub iv_drawn : Form → Keys → ℕ
@@ -38,7 +41,11 @@ written_by form keys random = form.written keys (take (iv_drawn form keys) rando
 
 -- a session that saves nothing refuses each save as a bad line
 abbrev pub no_form : Form
-no_form = record { size = λ keys. 0; written = λ keys iv. Err BadLine }
+no_form = record { size = λ keys. 0; written = λ keys iv. Err BadLine; saved_only = false }
+
+-- the same form, in a session that seals and tags only what is saved, or always
+abbrev pub with_saved_only : (saved_only : Bool) → Form → Form
+with_saved_only saved_only form = record form { saved_only = saved_only }
 
 -- ---- a save
 
@@ -75,19 +82,34 @@ files_of line = []
 abbrev pub StoreAnswers : Type 0
 StoreAnswers = (before : List FileAsked) → (name : List ℕ) → Option LineRefusal
 
--- what a line comes to be, after the files asked for before, over a keyset, with these random bytes
+-- What a line comes to be, after the files asked for before, over a keyset, with these random bytes. `unsaved` says that
+-- an accepted edit stands that no file has.
 abbrev pub Resolves : Type 0
-Resolves = (before : List FileAsked) → Keys → (random : List ℕ) → Line → Line
+Resolves = (before : List FileAsked) → (unsaved : Bool) → Keys → (random : List ℕ) → Line → Line
 
 -- as it is read
 abbrev pub as_read : Resolves
-as_read before keys random line = line
+as_read before unsaved keys random line = line
+
+-- whether a line makes what only keys can open or verify: it seals or tags
+abbrev pub makes : Line → Bool
+makes (Seal plain ad) = true
+makes (Dseal plain ad) = true
+makes (Reseal sealed ad) = true
+makes (Dreseal sealed ad) = true
+makes (Tag body) = true
+makes line = false
+
+-- if the keyset is to be saved first, a line that seals or tags is refused
+abbrev pub unless_unsaved : (refuses : Bool) → Line → Line
+unless_unsaved refuses line = if makes line && refuses then Bad NotSaved else line
 
 -- a line with what becomes of the keyset, if it is to be saved
 abbrev pub resolved : Form → StoreAnswers → Resolves
-resolved form answers before keys random (Save name outcome) =
+resolved form answers before unsaved keys random (Save name outcome) =
     Save name (outcome_of form keys random (answers before name))
-resolved form answers before keys random line = line
+resolved form answers before unsaved keys random line =
+    unless_unsaved (form.saved_only && unsaved) line
 
 -- the name under which a line saves the keyset, if it does
 abbrev pub name_saved : Line → Option (List ℕ)

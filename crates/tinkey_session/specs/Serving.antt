@@ -21,7 +21,7 @@ use Rattle.tinkey_session.specs.declared.reply.Refusal.{Refusal}
 use Rattle.tinkey_session.specs.declared.reply.Refusal.TheVariants.{AsymmetricTemplate, Command, OutputTooLong, UnknownTemplate, VerifyFailed}
 use Rattle.tinkey_session.specs.declared.reply.Refusal.TheVariants as refusals
 use Rattle.tinkey_session.specs.declared.reply.LineRefusal.{LineRefusal}
-use Rattle.tinkey_session.specs.declared.reply.LineRefusal.TheVariants.{BadLine, OpenFailed, Refused}
+use Rattle.tinkey_session.specs.declared.reply.LineRefusal.TheVariants.{OpenFailed, Refused}
 use Rattle.tinkey_session.specs.declared.reply.Reply.{Reply}
 use Rattle.tinkey_session.specs.declared.reply.Reply.TheVariants.{Done, Gives, NewId, Refuses}
 use Rattle.wrapped_prims.specs.Answers.{Sealed, derive_answer, dopen_answer, dseal_answer, open_answer, seal_answer, tag_answer, verify_answer}
@@ -189,4 +189,4 @@ serve table keys (Derive size input) random = by_handle Prf table keys random
     (computed keys random (derived_reply size) (derive_answer keys table input size))
 serve table keys (AsksEdit edit) random = asked_line keys random edit
 serve table keys (Save name outcome) random = saved_line keys random outcome
-serve table keys Bad random = Some (answered keys random (Refuses BadLine))
+serve table keys (Bad why) random = Some (answered keys random (Refuses why))

@@ -4,13 +4,14 @@
 --   turns        the turn of each line
 --   lines_by     the lines as they are resolved
 --   remains      what the last line leaves
-use Rattle.std.specs.Prelude.{ℕ, List, [], ◌∷◌, ◌++◌, ◌==◌, map, Option, Some, None, option_and_then, if◌then◌else◌}
+use Rattle.std.specs.Prelude.{ℕ, Bool, List, [], ◌∷◌, ◌++◌, ◌==◌, map, Option, Some, None, option_and_then, if◌then◌else◌}
 use Rattle.std.specs.List.{onto_first}
 use Rattle.keyset_model.specs.Keyset.{Keys}
 use Rattle.managers.specs.Table.{Table}
 use Rattle.tinkey_session.specs.Lines.{Line, line_of}
 use Rattle.tinkey_session.specs.Saving.{FileAsked, Resolves, files_of}
 use Rattle.tinkey_session.specs.Serving.{Served, serve}
+use Rattle.tinkey_session.specs.Talking.{unsaved_after}
 use Rattle.tinkey_session.specs.declared.reply.Reply.{Reply}
 
 -- A line ends with a newline. A last one without it counts where it isn't empty.
@@ -58,11 +59,13 @@ abbrev pub lines_then : (later : List Line) → Option Served → (Served → Li
 lines_then later None over = later
 lines_then later (Some s) over = over s
 
--- the lines as they are resolved, after the files asked for before
-unfoldable pub lines_by : Table → Resolves → (before : List FileAsked) → Keys → List Line → (random : List ℕ)
-    → List Line
-lines_by table resolve before keys [] random = []
-lines_by table resolve before keys (line ∷ later) random =
-    resolve before keys random line
-    ∷ lines_then later (serve table keys (resolve before keys random line) random)
-    (λ s. lines_by table resolve (before ++ files_of (resolve before keys random line)) s.keys later s.left)
+-- the lines as they are resolved, after the files asked for before. `unsaved` says that an accepted edit stands that no
+-- file has.
+unfoldable pub lines_by : Table → Resolves → (before : List FileAsked) → (unsaved : Bool) → Keys → List Line
+    → (random : List ℕ) → List Line
+lines_by table resolve before unsaved keys [] random = []
+lines_by table resolve before unsaved keys (line ∷ later) random =
+    resolve before unsaved keys random line
+    ∷ lines_then later (serve table keys (resolve before unsaved keys random line) random)
+    (λ s. lines_by table resolve (before ++ files_of (resolve before unsaved keys random line))
+    (unsaved_after unsaved (resolve before unsaved keys random line) s.reply) s.keys later s.left)

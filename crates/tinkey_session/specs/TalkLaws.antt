@@ -1,16 +1,17 @@
 -- What a session over bytes is, in lines.
-use Rattle.std.specs.Prelude.{◌≡◌, ◌≢◌, ℕ, ◌<◌, ◌≤◌, List, [], ◌∷◌, ◌++◌, length, map, Bool, Some, Result, Ok, slice_get, if◌then◌else◌}
+use Rattle.std.specs.Prelude.{◌≡◌, ◌≢◌, ◌⊎◌, ℕ, ◌<◌, ◌≤◌, List, [], ◌∷◌, ◌++◌, length, map, Bool, true, false, Some, Result, Ok, slice_get, if◌then◌else◌}
 use Rattle.std.specs.List.{AllByRecursion, flat_map}
 use Rattle.keyset_model.specs.Keyset.{Keys}
 use Rattle.managers.specs.Table.{Table}
 use Rattle.tink_spec.specs.Files.{Files, StoreState}
 use Rattle.tink_spec.specs.Outside.{Rose}
 use Rattle.tinkey_session.specs.Lines.{Line, Outcome, Save, line_of}
-use Rattle.tinkey_session.specs.Saving.{FileAsked, Form, StoreAnswers, by_files, files_after, files_of, no_form, resolved}
+use Rattle.tinkey_session.specs.Saving.{FileAsked, Form, StoreAnswers, by_files, files_after, files_of, makes, no_form, resolved}
 use Rattle.tinkey_session.specs.Session.{Remains, Turn, lines_by, lines_of, remains, turns}
 use Rattle.tinkey_session.specs.Talking.{Exchange, Talk, goes, wants, passes, long_line, many_lines, line_limit, count_limit, saving, talk, talk_by}
 use Rattle.tinkey_session.specs.Talks.{HasAsked, IsSteady, Sides, Talks, TalksWith}
 use Rattle.tinkey_session.specs.Texts.{reply_text}
+use Rattle.tinkey_session.specs.declared.reply.Reply.TheVariants.{Done, Gives}
 use Rattle.tinkey_session.specs.declared.talk.TalkFault.{TalkFault}
 
 -- the replies of turns, as they are written
@@ -54,16 +55,38 @@ TalkIsTurns = (table : Table) (keys : Keys) (taken random : List ℕ) (ended : B
 abbrev pub SavesAreTurns : Type 0
 SavesAreTurns = (table : Table) (form : Form) (answers : StoreAnswers) (keys : Keys) (taken random : List ℕ)
     (ended : Bool) → IsTurnsOf table
-    (λ answered. lines_by table (resolved form answers) [] keys (map line_of answered) random)
+    (λ answered. lines_by table (resolved form answers) [] false keys (map line_of answered) random)
     keys taken random ended (talk_by (saving table form answers) keys taken random ended)
 
 -- The file that a save asks for is what the keyset before it becomes in this form, with some IV.
 abbrev pub SavesAreBefore : Type 0
-SavesAreBefore = (table : Table) (form : Form) (answers : StoreAnswers) (before : List FileAsked) (keys : Keys)
-    (lines : List Line) (random : List ℕ) (i : ℕ) (t : Turn) (name bytes : List ℕ) (outcome : Outcome)
-    → slice_get (turns table keys (lines_by table (resolved form answers) before keys lines random) random) i
+SavesAreBefore = (table : Table) (form : Form) (answers : StoreAnswers) (before : List FileAsked) (unsaved : Bool)
+    (keys : Keys) (lines : List Line) (random : List ℕ) (i : ℕ) (t : Turn) (name bytes : List ℕ) (outcome : Outcome)
+    → slice_get (turns table keys (lines_by table (resolved form answers) before unsaved keys lines random) random) i
     ≡ Some t → t.line ≡ Save name outcome → outcome.file ≡ Some bytes
     → (iv : List ℕ) × (form.written t.before iv ≡ Ok bytes)
+
+-- before this turn a line saved the keyset that the turn has
+pub record WasSaved (session : List Turn) (i : ℕ) (t : Turn) : Type 0 where
+  pub j : ℕ
+  pub earlier : j < i
+  pub save : Turn
+  pub at : slice_get session j ≡ Some save
+  pub name : List ℕ
+  pub outcome : Outcome
+  pub saves : save.line ≡ Save name outcome
+  pub done : save.reply ≡ Done
+  pub same : save.before ≡ t.before
+
+-- In a session that seals only what is saved, a line that seals or tags does so under the first keyset, or under one that
+-- an earlier line saved.
+abbrev pub SavedBeforeSealing : Type 0
+SavedBeforeSealing = (table : Table) (form : Form) (answers : StoreAnswers) (keys : Keys) (lines : List Line)
+    (random : List ℕ) (i : ℕ) (t : Turn) (output : List ℕ) → form.saved_only ≡ true
+    → slice_get (turns table keys (lines_by table (resolved form answers) [] false keys lines random) random) i
+    ≡ Some t → makes t.line ≡ true → t.reply ≡ Gives output
+    → (t.before ≡ keys)
+    ⊎ WasSaved (turns table keys (lines_by table (resolved form answers) [] false keys lines random) random) i t
 
 -- over no store it is the session that saves nothing, and it asks for no file
 abbrev pub NothingIsSaved : Type 0

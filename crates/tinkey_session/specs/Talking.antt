@@ -1,5 +1,6 @@
 -- A session over its input as the bytes come: each line is answered when its newline is there.
 --
+--   unsaved_after  whether an accepted edit stands that no file has
 --   Given        what a line gives, with the file that it asks for, if it does
 --   Replies      what lines give, each after the files that were asked for before
 --   saving       in a session that saves its keyset
@@ -11,10 +12,12 @@
 use Rattle.std.specs.Prelude.{◌≡◌, ℕ, suc, List, [], ◌∷◌, ◌++◌, length, ◌==◌, nat_le, Bool, true, false, Option, Some, None, option_map, if◌then◌else◌}
 use Rattle.keyset_model.specs.Keyset.{Keys}
 use Rattle.managers.specs.Table.{Table}
-use Rattle.tinkey_session.specs.Lines.{Line, line_of}
+use Rattle.tinkey_session.specs.Lines.{Line, Edit, Save, line_of}
 use Rattle.tinkey_session.specs.Saving.{FileAsked, Form, Resolves, StoreAnswers, as_read, files_of, resolved}
 use Rattle.tinkey_session.specs.Serving.{Served, serve}
 use Rattle.tinkey_session.specs.Texts.{reply_text}
+use Rattle.tinkey_session.specs.declared.reply.Reply.{Reply}
+use Rattle.tinkey_session.specs.declared.reply.Reply.TheVariants.{Done, Refuses}
 
 -- a line of more bytes, its newline not counted, is too long
 abbrev pub line_limit : ℕ
@@ -35,25 +38,44 @@ pub data Stop : Type 0 where
   wants : Stop
   passes : Limit → Stop
 
--- the keyset, the line so far, the count of lines before it, the replies to them, the files that they asked for, and
--- the random bytes that are left
+-- the keyset, the line so far, the count of lines before it, whether an accepted edit among them stands that no file has,
+-- the replies to them, the files that they asked for, and the random bytes that are left
 pub record Talk : Type 0 where
   pub keys : Keys
   pub line : List ℕ
   pub count : ℕ
+  pub unsaved : Bool
   pub output : List ℕ
   pub asked : List FileAsked
   pub random : List ℕ
   pub stop : Stop
 
--- what a line gives, and the file that it asks for, if it does
+-- whether an accepted edit stands that no file has, after an edit with this reply
+abbrev pub unsaved_by_edit : (unsaved : Bool) → Reply → Bool
+unsaved_by_edit unsaved (Refuses why) = unsaved
+unsaved_by_edit unsaved reply = true
+
+-- after a save with this reply
+abbrev pub unsaved_by_save : (unsaved : Bool) → Reply → Bool
+unsaved_by_save unsaved Done = false
+unsaved_by_save unsaved reply = unsaved
+
+-- after a line with this reply
+abbrev pub unsaved_after : (unsaved : Bool) → Line → Reply → Bool
+unsaved_after unsaved (Edit edit) reply = unsaved_by_edit unsaved reply
+unsaved_after unsaved (Save name outcome) reply = unsaved_by_save unsaved reply
+unsaved_after unsaved line reply = unsaved
+
+-- what a line gives, the file that it asks for, if it does, and whether an accepted edit stands after it that no file has
 pub record Given : Type 0 where
   pub served : Served
   pub asked : List FileAsked
+  pub unsaved : Bool
 
--- what lines give, after the files asked for before, over a keyset, of these random bytes
+-- what lines give, after the files asked for before, over a keyset, of these random bytes. `unsaved` says that an
+-- accepted edit stands that no file has.
 abbrev pub Replies : Type 0
-Replies = (before : List FileAsked) → Keys → (line random : List ℕ) → Option Given
+Replies = (before : List FileAsked) → (unsaved : Bool) → Keys → (line random : List ℕ) → Option Given
 
 -- more random bytes after those that are left
 abbrev pub given_more : List ℕ → Given → Given
@@ -61,22 +83,23 @@ given_more more g = record g { served = record g.served { left = g.served.left +
 
 -- It is settled by the random bytes that the line draws: more of them after these change nothing.
 abbrev pub AreSettled : Replies → Type 0
-AreSettled give = (before : List FileAsked) (keys : Keys) (line random more : List ℕ) (g : Given)
-    → give before keys line random ≡ Some g
-    → give before keys line (random ++ more) ≡ Some (given_more more g)
+AreSettled give = (before : List FileAsked) (unsaved : Bool) (keys : Keys) (line random more : List ℕ) (g : Given)
+    → give before unsaved keys line random ≡ Some g
+    → give before unsaved keys line (random ++ more) ≡ Some (given_more more g)
 
 -- what was answered to a line, with the file that it asks for
-abbrev pub with_files : Line → Served → Given
-with_files line s = record { served = s; asked = files_of line }
+abbrev pub with_files : (unsaved : Bool) → Line → Served → Given
+with_files unsaved line s =
+    record { served = s; asked = files_of line; unsaved = unsaved_after unsaved line s.reply }
 
 -- what a line gives, under a table of managers
-abbrev pub gives : Table → Keys → Line → (random : List ℕ) → Option Given
-gives table keys line random = option_map (with_files line) (serve table keys line random)
+abbrev pub gives : Table → (unsaved : Bool) → Keys → Line → (random : List ℕ) → Option Given
+gives table unsaved keys line random = option_map (with_files unsaved line) (serve table keys line random)
 
 -- what lines give, each as it is resolved
 abbrev pub answers_by : Table → Resolves → Replies
-answers_by table resolve before keys line random =
-    gives table keys (resolve before keys random (line_of line)) random
+answers_by table resolve before unsaved keys line random =
+    gives table unsaved keys (resolve before unsaved keys random (line_of line)) random
 
 -- in a session that saves nothing
 abbrev pub by_lines : Table → Replies
@@ -93,6 +116,7 @@ replied x (Some g) = record {
   keys = g.served.keys;
   line = [];
   count = suc x.count;
+  unsaved = g.unsaved;
   output = x.output ++ reply_text g.served.reply;
   asked = x.asked ++ g.asked;
   random = g.served.left;
@@ -101,7 +125,7 @@ replied x (Some g) = record {
 
 -- the line so far is a line
 abbrev pub line_ended : Replies → Talk → Talk
-line_ended give x = replied x (give x.asked x.keys x.line x.random)
+line_ended give x = replied x (give x.asked x.unsaved x.keys x.line x.random)
 
 -- a byte is taken
 abbrev pub byte_taken : Replies → Talk → ℕ → Talk
@@ -133,12 +157,13 @@ finish give false x = x
 finish give true x = on_go x.stop x (last_line give x.line x)
 
 -- a session that goes on
-abbrev pub going : Keys → (line : List ℕ) → (count : ℕ) → (output : List ℕ) → (asked : List FileAsked) → (random : List ℕ)
-    → Talk
-going keys line count output asked random = record {
+abbrev pub going : Keys → (line : List ℕ) → (count : ℕ) → (unsaved : Bool) → (output : List ℕ) → (asked : List FileAsked)
+    → (random : List ℕ) → Talk
+going keys line count unsaved output asked random = record {
   keys = keys;
   line = line;
   count = count;
+  unsaved = unsaved;
   output = output;
   asked = asked;
   random = random;
@@ -151,7 +176,7 @@ Exchange = (taken random : List ℕ) → (ended : Bool) → Talk
 
 -- the session over a keyset whose lines give this
 abbrev pub talk_by : Replies → Keys → Exchange
-talk_by give keys taken random ended = finish give ended (over give (going keys [] 0 [] [] random) taken)
+talk_by give keys taken random ended = finish give ended (over give (going keys [] 0 false [] [] random) taken)
 
 -- the session over a keyset, under a table of managers
 abbrev pub talk : Table → Keys → Exchange

@@ -10,7 +10,7 @@ use Rattle.tinkey_session.specs.Lines.{word_of}
 use Rattle.tinkey_session.specs.declared.reply.Refusal.{Refusal}
 use Rattle.tinkey_session.specs.declared.reply.Refusal.TheVariants.{AsymmetricTemplate, BadKey, Command, NoManager, NotRaw, OutputTooLong, UnknownTemplate, VerifyFailed}
 use Rattle.tinkey_session.specs.declared.reply.LineRefusal.{LineRefusal}
-use Rattle.tinkey_session.specs.declared.reply.LineRefusal.TheVariants.{BadLine, KeysetTooLong, OpenFailed, OutputExists, Refused, StoreFault}
+use Rattle.tinkey_session.specs.declared.reply.LineRefusal.TheVariants.{BadLine, KeysetTooLong, NotSaved, OpenFailed, OutputExists, Refused, StoreFault}
 use Rattle.tinkey_session.specs.declared.reply.Reply.{Reply}
 use Rattle.tinkey_session.specs.declared.reply.Reply.TheVariants.{Done, Gives, NewId, Refuses}
 
@@ -52,6 +52,7 @@ refusal_text VerifyFailed = codes "verify failed"
 -- the text of a line's refusal
 abbrev pub line_refusal_text : LineRefusal → List ℕ
 line_refusal_text BadLine = codes "bad line"
+line_refusal_text NotSaved = codes "keyset is not saved"
 line_refusal_text OpenFailed = codes "open failed"
 line_refusal_text OutputExists = codes "output file exists"
 line_refusal_text KeysetTooLong = codes "keyset too long"

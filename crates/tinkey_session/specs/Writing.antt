@@ -1,5 +1,5 @@
 -- What writing a keyset, and saving it, say of the random bytes and the store.
-use Rattle.std.specs.Prelude.{◌≡◌, ℕ, ◌<◌, List, length, Option, Result, Ok, Err}
+use Rattle.std.specs.Prelude.{◌≡◌, ℕ, ◌<◌, Bool, List, length, Option, Result, Ok, Err}
 use Rattle.std.specs.Result.{result_ok}
 use Rattle.keyset_model.specs.Keyset.{Keys}
 use Rattle.tink_spec.specs.Files.{StoreState}
@@ -7,6 +7,7 @@ use Rattle.tink_spec.specs.Outside.{EntropyState, Drew, DrewLosing, Rose, Stood}
 use Rattle.tinkey_session.specs.Answered.{DrewSome}
 use Rattle.tinkey_session.specs.Saving.{Asks, Form, file_asked, iv_drawn, why_of}
 use Rattle.tinkey_session.specs.Serving.{saved_reply}
+use Rattle.tinkey_session.specs.Talking.{unsaved_by_save}
 use Rattle.tinkey_session.specs.Texts.{reply_text}
 use Rattle.tinkey_session.specs.declared.reply.LineRefusal.{LineRefusal}
 use Rattle.tinkey_session.specs.declared.saving.WriteError.{WriteError}
@@ -38,13 +39,15 @@ Writes form keys (Err errors.EntropyFault) old new = Unwrote form keys old new
 Writes form keys (Err errors.NoMemory) old new = DrewSome old new
 
 -- A keyset was saved under this name, or refused, and the reply has this text. Where it was written, a file was asked for.
-pub record IsSaved (form : Form) (keys : Keys) (name text : List ℕ) (old new : EntropyState)
+-- `unsaved` and `later` say whether an accepted edit stands that no file has, before the save and after it.
+pub record IsSaved (form : Form) (keys : Keys) (name text : List ℕ) (unsaved later : Bool) (old new : EntropyState)
     (before after : StoreState) : Type 0 where
   pub answer : Result (List ℕ) LineRefusal
   pub wrote : Wrote form keys answer old new
   pub why : Option LineRefusal
   pub asks : Asks (file_asked name (why_of why answer) (result_ok answer)) before after
   pub spelled : text ≡ reply_text (saved_reply (why_of why answer))
+  pub after' : later ≡ unsaved_by_save unsaved (saved_reply (why_of why answer))
 
 -- why there is no reply
 abbrev pub IsUnsaved : Form → Keys → LineFault → (old new : EntropyState) → Type 0

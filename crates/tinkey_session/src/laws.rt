@@ -13,7 +13,7 @@ ghost use Rattle.tinkey_cmds.specs.Laws.{EditsFollow, EditsLeaveOthers};
 ghost use Rattle.tinkey_session.specs.SessionLaws.{LinesGoOn, SessionGoesOn, SessionIsEdits, SessionVerifies};
 ghost use Rattle.tinkey_session.specs.SessionLaws.{SessionDopens, SessionDopensPresent, SessionOpens, SessionOpensPresent};
 ghost use Rattle.tinkey_session.specs.SessionLaws.{TurnIsEdits, TurnsAreLines, TurnsAreSpelled};
-ghost use Rattle.tinkey_session.specs.TalkLaws.{NothingIsSaved, SavesAreBefore, SavesAreSteady, SavesAreTold, SavesAreTurns, TalkIsTurns, TalksAreSteady};
+ghost use Rattle.tinkey_session.specs.TalkLaws.{NothingIsSaved, SavedBeforeSealing, SavesAreBefore, SavesAreSteady, SavesAreTold, SavesAreTurns, TalkIsTurns, TalksAreSteady};
 
 use key_msgs::laws::made_is_valid;
 use tinkey_cmds::laws::{edits_follow, edits_leave_others};
@@ -295,4 +295,10 @@ pub fn saves_are_told()
 /// The file that a line asks for is the keyset before it, written.
 pub fn saves_are_before()
     ensures { SavesAreBefore }
+{}
+
+/// In a session that seals only what is saved, a line that seals or tags does so under the first
+/// keyset, or under one that an earlier line saved.
+pub fn saved_before_sealing()
+    ensures { SavedBeforeSealing }
 {}

@@ -11,9 +11,7 @@ mod short_text;
 pub mod talk;
 
 pub use line::{Line, read_line};
-pub use reply::{
-    LineRefusal, Refusal, Reply, line_refusal_text, refusal_in, refusal_text, reply_text,
-};
+pub use reply::{LineRefusal, Refusal, Reply, line_refusal_text, refusal_text, reply_text};
 pub use saving::{NoWriter, WriteError, Writer};
 pub use session::{LineFault, Session, find_edit, find_template};
 pub use short_text::ShortText;

@@ -4,6 +4,7 @@ ghost use Rattle.std.specs.Prelude.{◌≡◌, length, IfOk, option_map};
 ghost use Rattle.tinkey_session.specs.Lines.{bytes_in, file_in, line_of, line_of_words, line_with_bytes, line_with_id, line_with_one, line_with_two, name_in, words_of};
 ghost use Rattle.tinkey_session.specs.Reading.{IsWithin, seen_line, seen_name};
 
+use crate::reply::LineRefusal;
 use hex::FromHexError;
 use hex_lanes::decode;
 use std::alloc::Global;
@@ -37,8 +38,8 @@ pub enum Line<'a> {
     Edit(KeysetEdit<&'a str>),
     /// Save the keyset under this name, which is one that a new file may have.
     Save(&'a str),
-    /// Not a line of the grammar.
-    Bad,
+    /// A line that is refused for this, before anything is looked at.
+    Bad(LineRefusal),
 }
 
 /// Reads a line, without its newline. Memory is taken only for the bytes that the line spells in
@@ -50,7 +51,7 @@ pub fn read_line(alloc: Global, line: &[u8]) -> Result<Line<'_>, NoMemory>
 {
     match from_utf8(line) {
         Ok(text) => read_words(alloc, text),
-        Err(_) => Ok(Line::Bad),
+        Err(_) => Ok(Line::Bad(LineRefusal::BadLine)),
     }
 }
 
@@ -59,12 +60,12 @@ fn read_words(alloc: Global, text: &str) -> Result<Line<'_>, NoMemory>
     ensures { IfOk result (λ read. seen_line read ≡ line_of_words (words_of text.now)) }
 {
     match text.split_once(' ') {
-        None => Ok(Line::Bad),
+        None => Ok(Line::Bad(LineRefusal::BadLine)),
         Some((name, words)) => match words.split_once(' ') {
             None => line_with_one(alloc, name, words),
             Some((first, second)) => match second.split_once(' ') {
                 None => line_with_two(alloc, name, first, second),
-                Some(_) => Ok(Line::Bad),
+                Some(_) => Ok(Line::Bad(LineRefusal::BadLine)),
             },
         },
     }
@@ -77,23 +78,23 @@ fn line_with_one<'a>(alloc: Global, name: &str, word: &'a str) -> Result<Line<'a
     Ok(match name {
         "tag" => match bytes_in(alloc, word)? {
             Some(body) => Line::Tag(body),
-            None => Line::Bad,
+            None => Line::Bad(LineRefusal::BadLine),
         },
         "add" => match name_in(word) {
             Some(template) => Line::Edit(KeysetEdit::Add(template)),
-            None => Line::Bad,
+            None => Line::Bad(LineRefusal::BadLine),
         },
         "rotate" => match name_in(word) {
             Some(template) => Line::Edit(KeysetEdit::Rotate(template)),
-            None => Line::Bad,
+            None => Line::Bad(LineRefusal::BadLine),
         },
         "save" => match file_in(word) {
             Some(name) => Line::Save(name),
-            None => Line::Bad,
+            None => Line::Bad(LineRefusal::BadLine),
         },
         _ => match number_in(word) {
             Some(id) => line_with_id(name, id),
-            None => Line::Bad,
+            None => Line::Bad(LineRefusal::BadLine),
         },
     })
 }
@@ -108,7 +109,7 @@ fn line_with_id<'a>(name: &str, id: u32) -> Line<'a>
         "disable" => Line::Edit(KeysetEdit::Disable(id)),
         "destroy" => Line::Edit(KeysetEdit::Destroy(id)),
         "delete" => Line::Edit(KeysetEdit::Delete(id)),
-        _ => Line::Bad,
+        _ => Line::Bad(LineRefusal::BadLine),
     }
 }
 
@@ -124,12 +125,12 @@ fn line_with_two<'a>(
     if name == "derive" {
         return Ok(match (number_in(first), bytes_in(alloc, second)?) {
             (Some(size), Some(input)) => Line::Derive(size, input),
-            _ => Line::Bad,
+            _ => Line::Bad(LineRefusal::BadLine),
         });
     }
     Ok(match (bytes_in(alloc, first)?, bytes_in(alloc, second)?) {
         (Some(a), Some(b)) => line_with_bytes(name, a, b),
-        _ => Line::Bad,
+        _ => Line::Bad(LineRefusal::BadLine),
     })
 }
 
@@ -145,7 +146,7 @@ fn line_with_bytes<'a>(name: &str, a: Bytes, b: Bytes) -> Line<'a>
         "verify" => Line::Verify(a, b),
         "reseal" => Line::Reseal(a, b),
         "dreseal" => Line::Dreseal(a, b),
-        _ => Line::Bad,
+        _ => Line::Bad(LineRefusal::BadLine),
     }
 }
 

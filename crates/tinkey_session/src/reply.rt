@@ -41,6 +41,8 @@ pub enum Refusal {
 pub enum LineRefusal {
     /// It isn't of the grammar of lines.
     BadLine,
+    /// The keyset differs from its file and from the last one saved, and is to be saved first.
+    NotSaved,
     /// No key opens the bytes. A command reports more about them, so it has a status of its own.
     OpenFailed,
     /// The name of a file to save under is taken.
@@ -77,7 +79,7 @@ pub enum Reply {
 }
 
 /// Why a keyset can't serve, from the fault of its handle; `None` if memory couldn't be allocated.
-pub fn refusal_in(fault: HandleError) -> Option<Refusal>
+pub(crate) fn refusal_in(fault: HandleError) -> Option<Refusal>
     ensures { result ≡ refusal_in fault }
 {
     match fault {
@@ -95,6 +97,7 @@ pub fn line_refusal_text(refusal: LineRefusal) -> ShortText
 {
     match refusal {
         LineRefusal::BadLine => plain_text("bad line"),
+        LineRefusal::NotSaved => plain_text("keyset is not saved"),
         LineRefusal::OpenFailed => plain_text("open failed"),
         LineRefusal::OutputExists => plain_text("output file exists"),
         LineRefusal::KeysetTooLong => plain_text("keyset too long"),

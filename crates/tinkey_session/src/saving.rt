@@ -1,10 +1,11 @@
 //! A keyset saved in the middle of a session: it is written, and becomes a new file of a store.
 
-ghost use Rattle.std.specs.Prelude.{◌≡◌, Ok, Err, IfOk, IfErr, OnErr, option_map};
+ghost use Rattle.std.specs.Prelude.{◌≡◌, ◌&&◌, ℕ, Ok, Err, IfOk, IfErr, OnErr, option_map};
 ghost use Rattle.std.specs.List.{AllByRecursion};
 ghost use Rattle.keyset_model.specs.Keyset.{IsShort};
-ghost use Rattle.tinkey_session.specs.Reading.{seen_line, seen_name};
-ghost use Rattle.tinkey_session.specs.Saving.{Form, name_saved};
+ghost use Rattle.tinkey_session.specs.Reading.{IsWithin, seen_line, seen_name};
+ghost use Rattle.tinkey_session.specs.Saving.{Form, makes, name_saved, unless_unsaved};
+ghost use Rattle.tinkey_session.specs.Talking.{unsaved_after};
 ghost use Rattle.tinkey_session.specs.Texts.{reply_text};
 ghost use Rattle.tinkey_session.specs.Writing.{IsSaved, IsUnsaved, Writes};
 ghost use Rattle.tinkey_session.specs.declared.reply.LineRefusal.TheVariants.{OutputExists, StoreFault};
@@ -30,7 +31,7 @@ pub enum WriteError {
 
 /// What writes keysets, in clear or encrypted.
 pub trait Writer {
-    /// What a keyset becomes, and how many random bytes that draws.
+    /// What a keyset becomes, how many random bytes that draws, and whether only a saved keyset seals.
     ghost form: { Self → Form };
 
     /// That it can write: for instance that the keys that it seals with can serve.
@@ -49,6 +50,11 @@ pub trait Writer {
         requires short { AllByRecursion IsShort keyset.now.records }
         ensures { Writes (form self.now) keyset.now result
             (E.state entropy.old) (E.state entropy.new) };
+
+    /// Whether lines that seal or tag are refused while the keyset isn't saved: an accepted edit
+    /// stands that no file has.
+    fn saved_only(&self) -> bool
+        ensures { result ≡ (form self.now).saved_only };
 }
 
 /// Writes no keyset: each line that saves one is refused as a bad line.
@@ -69,6 +75,48 @@ impl Writer for NoWriter {
         _entropy: &mut E,
     ) -> Result<Bytes, WriteError> {
         Err(WriteError::Refused(LineRefusal::BadLine))
+    }
+
+    fn saved_only(&self) -> bool {
+        false
+    }
+}
+
+/// Whether the line seals or tags.
+fn makes(line: &Line<'_>) -> bool
+    ensures { result ≡ makes (seen_line line.now) }
+{
+    match line {
+        Line::Seal(..) | Line::Dseal(..) | Line::Tag(..) => true,
+        Line::Reseal(..) | Line::Dreseal(..) => true,
+        _ => false,
+    }
+}
+
+/// The line, or a refused one if it seals or tags, only a saved keyset may do so, and an accepted
+/// edit stands that no file has.
+pub(crate) fn unless_unsaved<'a>(saved_only: bool, unsaved: bool, line: Line<'a>) -> Line<'a>
+    ensures line { seen_line result
+        ≡ unless_unsaved (saved_only && unsaved) (seen_line line.entry) }
+    ensures within { (most : ℕ) → IsWithin most (seen_line line.entry)
+        → IsWithin most (seen_line result) }
+{
+    if saved_only && unsaved && makes(&line) {
+        Line::Bad(LineRefusal::NotSaved)
+    } else {
+        line
+    }
+}
+
+/// Whether an accepted edit stands that no file has, after a line with this reply.
+pub(crate) fn unsaved_after(unsaved: bool, line: &Line<'_>, reply: &Reply) -> bool
+    ensures { result ≡ unsaved_after unsaved (seen_line line.now) reply.now }
+{
+    match (line, reply) {
+        (Line::Edit(_), Reply::Refuses(_)) => unsaved,
+        (Line::Edit(_), _) => true,
+        (Line::Save(_), Reply::Done) => false,
+        _ => unsaved,
     }
 }
 
@@ -106,19 +154,28 @@ fn save_texts(alloc: Global) -> Result<SaveTexts, NoMemory>
     })
 }
 
-/// save: writes the keyset, and makes a new file of this name with its bytes; returns the text of
-/// the reply. With any fault no file has changed.
+/// The text of the reply to a line, and whether an accepted edit stands after it that no file has.
+#[derive(Drop)]
+pub(crate) struct LineReply {
+    pub text: Vec<u8>,
+    pub unsaved: bool,
+}
+
+/// save: writes the keyset, and makes a new file of this name with its bytes. With any fault no
+/// file has changed.
 pub(crate) fn save<E: Entropy, W: Writer, D: Store>(
     alloc: Global,
     keyset: &Keyset,
     name: &str,
+    unsaved: bool,
     writer: &W,
     entropy: &mut E,
     store: &mut D,
-) -> Result<Vec<u8>, LineFault>
+) -> Result<LineReply, LineFault>
     requires ready { W.ready writer.now }
     requires short { AllByRecursion IsShort keyset.now.records }
-    ensures saved { IfOk result (λ text. IsSaved (W.form writer.now) keyset.now name.now text.items
+    ensures saved { IfOk result (λ reply. IsSaved (W.form writer.now) keyset.now name.now
+        reply.text.items unsaved reply.unsaved
         (E.state entropy.old) (E.state entropy.new) (D.state store.old) (D.state store.new)) }
     ensures unsaved { IfErr result (λ fault. IsUnsaved (W.form writer.now) keyset.now fault
         (E.state entropy.old) (E.state entropy.new)) }
@@ -128,7 +185,7 @@ pub(crate) fn save<E: Entropy, W: Writer, D: Store>(
         Ok(bytes) => bytes,
         Err(WriteError::Refused(why)) => {
             return match reply_text(alloc, &Reply::Refuses(why)) {
-                Ok(text) => Ok(text),
+                Ok(text) => Ok(LineReply { text, unsaved }),
                 Err(_) => Err(LineFault::NoMemory),
             };
         }
@@ -141,9 +198,18 @@ pub(crate) fn save<E: Entropy, W: Writer, D: Store>(
         Err(_) => return Err(LineFault::NoMemory),
     };
     match store.create(alloc, name, bytes.as_slice()) {
-        Ok(Created::Made) => Ok(texts.made),
-        Ok(Created::Exists) => Ok(texts.exists),
-        Err(StoreError::Failed) => Ok(texts.failed),
+        Ok(Created::Made) => Ok(LineReply {
+            text: texts.made,
+            unsaved: false,
+        }),
+        Ok(Created::Exists) => Ok(LineReply {
+            text: texts.exists,
+            unsaved,
+        }),
+        Err(StoreError::Failed) => Ok(LineReply {
+            text: texts.failed,
+            unsaved,
+        }),
         Err(StoreError::NoMemory) => Err(LineFault::NoMemory),
     }
 }

@@ -346,6 +346,7 @@ fn command_of(line: &Line<'_>) -> Result<KeysetEdit<Template>, LineRefusal>
             let command = find_edit(*edit)?;
             Ok(command)
         }
+        Line::Bad(why) => Err(*why),
         _ => Err(LineRefusal::BadLine),
     }
 }

@@ -11,7 +11,7 @@ ghost use Rattle.tinkey_session.specs.Talks.{TalksWith, sides};
 
 use crate::line::read_line;
 use crate::reply::reply_text;
-use crate::saving::{Writer, name_saved, save};
+use crate::saving::{LineReply, Writer, name_saved, save, unless_unsaved, unsaved_after};
 use crate::session::{LineFault, Session};
 use keyset_model::Keyset;
 use managers::{KeyTable, Managers};
@@ -48,12 +48,14 @@ const PIECE: usize = 4096;
 /// If the replies have more bytes in all, they aren't held back.
 const HELD_LIMIT: usize = 32_768;
 
-/// A session, the line so far, how many lines came before it, and the replies that are held back.
+/// A session, the line so far, how many lines came before it, whether an accepted edit among them
+/// stands that no file has, and the replies that are held back.
 #[derive(Drop)]
 struct TalkState<'m> {
     session: Session<'m>,
     line: Vec<u8>,
     count: usize,
+    unsaved: bool,
     replies: Vec<u8>,
     ghost fits: { length line.items ≤ line_limit },
 }
@@ -64,6 +66,9 @@ struct TalkState<'m> {
 /// A line may save the keyset as it is then: the writer, which must be ready, writes it, and the
 /// store makes a new file of it, before the reply is given. If the name is taken or the store
 /// fails, the reply says so, and the session goes on; with a `NoWriter` it is a bad line.
+///
+/// If the writer is `saved_only`, lines that seal or tag are refused while an accepted edit stands
+/// that no later line has saved: the keyset differs from the one given and from the last one saved.
 ///
 /// A line ends with a newline; a last one without it counts if it isn't empty. Before each read the
 /// replies to all complete lines are written. The session ends early if a byte is past a limit:
@@ -103,6 +108,7 @@ pub fn talk<S: Source, K: Sink, E: Lookahead, W: Writer, D: Store>(
         session: Session::new(keyset, managers),
         line: Vec::new(alloc),
         count: 0,
+        unsaved: false,
         replies: Vec::new(alloc),
     };
     let mut buffer = [0u8; PIECE];
@@ -146,15 +152,15 @@ fn take_piece<K: Sink, E: Lookahead, W: Writer, D: Store>(
     ensures less { OnOk result (progress talk.old.count talk.old.line.items + length piece.now ≤ progress talk.new.count talk.new.line.items) }
     ensures fed { OnOk result (Fed
         (saving (⟦<Managers as KeyTable>⟧.table talk.old.session.managers.now) (W.form writer.now))
-        (going talk.old.session.keyset talk.old.line.items talk.old.count)
-        (point talk.new.session.keyset talk.new.line.items talk.new.count) (taking piece.now)
+        (going talk.old.session.keyset talk.old.line.items talk.old.count talk.old.unsaved)
+        (point talk.new.session.keyset talk.new.line.items talk.new.count talk.new.unsaved) (taking piece.now)
         (outside (K.state sink.old) talk.old.replies.items (E.state entropy.old) (D.state store.old))
         (outside (K.state sink.new) talk.new.replies.items (E.state entropy.new) (D.state store.new))) }
     ensures stopped { IfErr result (λ fault. Stopped
         (saving (⟦<Managers as KeyTable>⟧.table talk.old.session.managers.now) (W.form writer.now))
-        (going talk.old.session.keyset talk.old.line.items talk.old.count) (taking piece.now)
+        (going talk.old.session.keyset talk.old.line.items talk.old.count talk.old.unsaved) (taking piece.now)
         (InPiece (saving (⟦<Managers as KeyTable>⟧.table talk.old.session.managers.now) (W.form writer.now))
-        (going talk.old.session.keyset talk.old.line.items talk.old.count) piece.now) fault
+        (going talk.old.session.keyset talk.old.line.items talk.old.count talk.old.unsaved) piece.now) fault
         (outside (K.state sink.old) talk.old.replies.items (E.state entropy.old) (D.state store.old))
         (outside (K.state sink.new) [] (E.state entropy.new) (D.state store.new))) }
 {
@@ -199,16 +205,16 @@ fn take_part<K: Sink, E: Lookahead, W: Writer, D: Store>(
     ensures less { IfOk result (λ taken. progress talk.old.count talk.old.line.items + taken ≤ progress talk.new.count talk.new.line.items) }
     ensures fed { IfOk result (λ taken. Fed
         (saving (⟦<Managers as KeyTable>⟧.table talk.old.session.managers.now) (W.form writer.now))
-        (going talk.old.session.keyset talk.old.line.items talk.old.count)
-        (point talk.new.session.keyset talk.new.line.items talk.new.count)
+        (going talk.old.session.keyset talk.old.line.items talk.old.count talk.old.unsaved)
+        (point talk.new.session.keyset talk.new.line.items talk.new.count talk.new.unsaved)
         (taking (take taken bytes.now))
         (outside (K.state sink.old) talk.old.replies.items (E.state entropy.old) (D.state store.old))
         (outside (K.state sink.new) talk.new.replies.items (E.state entropy.new) (D.state store.new))) }
     ensures stopped { IfErr result (λ fault. Stopped
         (saving (⟦<Managers as KeyTable>⟧.table talk.old.session.managers.now) (W.form writer.now))
-        (going talk.old.session.keyset talk.old.line.items talk.old.count) (taking bytes.now)
+        (going talk.old.session.keyset talk.old.line.items talk.old.count talk.old.unsaved) (taking bytes.now)
         (InPiece (saving (⟦<Managers as KeyTable>⟧.table talk.old.session.managers.now) (W.form writer.now))
-        (going talk.old.session.keyset talk.old.line.items talk.old.count) bytes.now) fault
+        (going talk.old.session.keyset talk.old.line.items talk.old.count talk.old.unsaved) bytes.now) fault
         (outside (K.state sink.old) talk.old.replies.items (E.state entropy.old) (D.state store.old))
         (outside (K.state sink.new) [] (E.state entropy.new) (D.state store.new))) }
 {
@@ -263,13 +269,13 @@ fn take_line<K: Sink, E: Lookahead, W: Writer, D: Store>(
     ensures line { OnOk result (talk.new.line.items ≡ []) }
     ensures fed { OnOk result (Fed
         (saving (⟦<Managers as KeyTable>⟧.table talk.old.session.managers.now) (W.form writer.now))
-        (going talk.old.session.keyset talk.old.line.items talk.old.count)
-        (point talk.new.session.keyset talk.new.line.items talk.new.count) line_ended
+        (going talk.old.session.keyset talk.old.line.items talk.old.count talk.old.unsaved)
+        (point talk.new.session.keyset talk.new.line.items talk.new.count talk.new.unsaved) line_ended
         (outside (K.state sink.old) talk.old.replies.items (E.state entropy.old) (D.state store.old))
         (outside (K.state sink.new) talk.new.replies.items (E.state entropy.new) (D.state store.new))) }
     ensures stopped { IfErr result (λ fault. Stopped
         (saving (⟦<Managers as KeyTable>⟧.table talk.old.session.managers.now) (W.form writer.now))
-        (going talk.old.session.keyset talk.old.line.items talk.old.count) line_ended InLine fault
+        (going talk.old.session.keyset talk.old.line.items talk.old.count talk.old.unsaved) line_ended InLine fault
         (outside (K.state sink.old) talk.old.replies.items (E.state entropy.old) (D.state store.old))
         (outside (K.state sink.new) [] (E.state entropy.new) (D.state store.new))) }
 {
@@ -277,16 +283,18 @@ fn take_line<K: Sink, E: Lookahead, W: Writer, D: Store>(
         alloc,
         &mut talk.session,
         &talk.line,
+        talk.unsaved,
         writer,
         &mut talk.replies,
         sink,
         entropy,
         store,
     ) {
-        Ok(reply) => match tell(&mut talk.replies, sink, &reply) {
+        Ok(reply) => match tell(&mut talk.replies, sink, &reply.text) {
             Ok(()) => {
                 talk.line.clear();
                 talk.count += 1;
+                talk.unsaved = reply.unsaved;
                 Ok(())
             }
             Err(_) => Err(TalkFault::WriteFault),
@@ -295,7 +303,7 @@ fn take_line<K: Sink, E: Lookahead, W: Writer, D: Store>(
     }
 }
 
-/// The text of the reply to a line. If the random bytes that are held suffice, they are used, and
+/// The reply to a line. If the random bytes that are held suffice, they are used, and
 /// no object is called. Otherwise the replies held back are written, and the line is answered
 /// again. If memory can't be allocated, they are written too, and the error is `NoMemory`, or
 /// `WriteFault` if a write fails.
@@ -303,12 +311,13 @@ fn reply_to<K: Sink, E: Lookahead, W: Writer, D: Store>(
     alloc: Global,
     session: &mut Session<'_>,
     line: &[u8],
+    unsaved: bool,
     writer: &W,
     replies: &mut Vec<u8>,
     sink: &mut K,
     entropy: &mut E,
     store: &mut D,
-) -> Result<Vec<u8>, TalkFault>
+) -> Result<LineReply, TalkFault>
     requires ready { W.ready writer.now }
     requires kept { IfSome session.old.kept (λ h. IsKept
         (⟦<Managers as KeyTable>⟧.table session.old.managers.now)
@@ -319,20 +328,20 @@ fn reply_to<K: Sink, E: Lookahead, W: Writer, D: Store>(
         (⟦<Managers as KeyTable>⟧.table h.managers.now) h.primitive session.new.keyset h.held)) }
     ensures table { OnOk result (⟦<Managers as KeyTable>⟧.table session.new.managers.now
         ≡ ⟦<Managers as KeyTable>⟧.table session.old.managers.now) }
-    ensures replied { IfOk result (λ text. IsReplied
+    ensures replied { IfOk result (λ reply. IsReplied
         (saving (⟦<Managers as KeyTable>⟧.table session.old.managers.now) (W.form writer.now))
-        session.old.keyset line.now text.items session.new.keyset
+        unsaved session.old.keyset line.now reply.text.items reply.unsaved session.new.keyset
         (E.state entropy.old) (E.state entropy.new) (D.state store.old) (D.state store.new)) }
     ensures told { OnOk result
         (HoldsBack (K.state sink.old) (K.state sink.new) replies.old.items replies.new.items []) }
     ensures no_fault { OnOk result (Stood (K.state sink.old).faults (K.state sink.new).faults) }
     ensures stopped { IfErr result (λ fault. (count : ℕ) → Stopped
         (saving (⟦<Managers as KeyTable>⟧.table session.old.managers.now) (W.form writer.now))
-        (going session.old.keyset line.now count) line_ended InLine fault
+        (going session.old.keyset line.now count unsaved) line_ended InLine fault
         (outside (K.state sink.old) replies.old.items (E.state entropy.old) (D.state store.old))
         (outside (K.state sink.new) [] (E.state entropy.new) (D.state store.new))) }
 {
-    match answer_held(alloc, session, line, writer, entropy, store) {
+    match answer_held(alloc, session, line, unsaved, writer, entropy, store) {
         Ok(reply) => return Ok(reply),
         Err(LineFault::EntropyFault) => {}
         Err(LineFault::NoMemory) => return Err(end(TalkFault::NoMemory, replies, sink)),
@@ -341,23 +350,24 @@ fn reply_to<K: Sink, E: Lookahead, W: Writer, D: Store>(
         Ok(()) => {}
         Err(_) => return Err(TalkFault::WriteFault),
     }
-    match answer_line(alloc, session, line, writer, entropy, store) {
+    match answer_line(alloc, session, line, unsaved, writer, entropy, store) {
         Ok(reply) => Ok(reply),
         Err(LineFault::EntropyFault) => Err(TalkFault::EntropyFault),
         Err(LineFault::NoMemory) => Err(TalkFault::NoMemory),
     }
 }
 
-/// The text of the reply to a line, with the random bytes that the entropy holds, which are then
+/// The reply to a line, with the random bytes that the entropy holds, which are then
 /// used up. `EntropyFault` means that they don't suffice. With any fault none is used.
 fn answer_held<E: Lookahead, W: Writer, D: Store>(
     alloc: Global,
     session: &mut Session<'_>,
     line: &[u8],
+    unsaved: bool,
     writer: &W,
     entropy: &mut E,
     store: &mut D,
-) -> Result<Vec<u8>, LineFault>
+) -> Result<LineReply, LineFault>
     requires ready { W.ready writer.now }
     requires kept { IfSome session.old.kept (λ h. IsKept
         (⟦<Managers as KeyTable>⟧.table session.old.managers.now)
@@ -368,9 +378,9 @@ fn answer_held<E: Lookahead, W: Writer, D: Store>(
         (⟦<Managers as KeyTable>⟧.table h.managers.now) h.primitive session.new.keyset h.held) }
     ensures table { ⟦<Managers as KeyTable>⟧.table session.new.managers.now
         ≡ ⟦<Managers as KeyTable>⟧.table session.old.managers.now }
-    ensures replied { IfOk result (λ text. IsReplied
+    ensures replied { IfOk result (λ reply. IsReplied
         (saving (⟦<Managers as KeyTable>⟧.table session.old.managers.now) (W.form writer.now))
-        session.old.keyset line.now text.items session.new.keyset
+        unsaved session.old.keyset line.now reply.text.items reply.unsaved session.new.keyset
         (E.state entropy.old) (E.state entropy.new) (D.state store.old) (D.state store.new)) }
     ensures unchanged { IsErrOf result LineFault.EntropyFault →
         session.new.keyset ≡ session.old.keyset }
@@ -380,7 +390,7 @@ fn answer_held<E: Lookahead, W: Writer, D: Store>(
     let held = entropy.held();
     let before = held.len();
     let mut drawn = Drawn::new(held);
-    match answer_line(alloc, session, line, writer, &mut drawn, store) {
+    match answer_line(alloc, session, line, unsaved, writer, &mut drawn, store) {
         Ok(reply) => {
             let used = before - drawn.left();
             entropy.skip(used);
@@ -390,15 +400,16 @@ fn answer_held<E: Lookahead, W: Writer, D: Store>(
     }
 }
 
-/// The text of the reply to a line, with random bytes of any entropy.
+/// The reply to a line, with random bytes of any entropy.
 fn answer_line<E: Entropy, W: Writer, D: Store>(
     alloc: Global,
     session: &mut Session<'_>,
     line: &[u8],
+    unsaved: bool,
     writer: &W,
     entropy: &mut E,
     store: &mut D,
-) -> Result<Vec<u8>, LineFault>
+) -> Result<LineReply, LineFault>
     requires ready { W.ready writer.now }
     requires kept { IfSome session.old.kept (λ h. IsKept
         (⟦<Managers as KeyTable>⟧.table session.old.managers.now)
@@ -409,30 +420,42 @@ fn answer_line<E: Entropy, W: Writer, D: Store>(
         (⟦<Managers as KeyTable>⟧.table h.managers.now) h.primitive session.new.keyset h.held) }
     ensures table { ⟦<Managers as KeyTable>⟧.table session.new.managers.now
         ≡ ⟦<Managers as KeyTable>⟧.table session.old.managers.now }
-    ensures replied { IfOk result (λ text. IsReplied
+    ensures replied { IfOk result (λ reply. IsReplied
         (saving (⟦<Managers as KeyTable>⟧.table session.old.managers.now) (W.form writer.now))
-        session.old.keyset line.now text.items session.new.keyset
+        unsaved session.old.keyset line.now reply.text.items reply.unsaved session.new.keyset
         (E.state entropy.old) (E.state entropy.new) (D.state store.old) (D.state store.new)) }
     ensures unreplied { IfErr result (λ fault. IsUnreplied
         (saving (⟦<Managers as KeyTable>⟧.table session.old.managers.now) (W.form writer.now))
-        session.old.keyset line.now fault (E.state entropy.old) (E.state entropy.new)) }
+        unsaved session.old.keyset line.now fault (E.state entropy.old) (E.state entropy.new)) }
     ensures still { OnErr result (D.state store.new ≡ D.state store.old) }
     ensures unchanged { IsErrOf result LineFault.EntropyFault →
         session.new.keyset ≡ session.old.keyset }
 {
-    let asked = match read_line(alloc, line) {
-        Ok(asked) => asked,
+    let read = match read_line(alloc, line) {
+        Ok(read) => read,
         Err(_) => return Err(LineFault::NoMemory),
     };
-    if let Some(name) = name_saved(&asked) {
-        return save(alloc, &session.keyset, name, writer, entropy, store);
+    if let Some(name) = name_saved(&read) {
+        return save(
+            alloc,
+            &session.keyset,
+            name,
+            unsaved,
+            writer,
+            entropy,
+            store,
+        );
     }
+    let asked = unless_unsaved(writer.saved_only(), unsaved, read);
     let reply = match session.serve(alloc, &asked, entropy) {
         Ok(reply) => reply,
         Err(fault) => return Err(fault),
     };
     match reply_text(alloc, &reply) {
-        Ok(text) => Ok(text),
+        Ok(text) => Ok(LineReply {
+            text,
+            unsaved: unsaved_after(unsaved, &asked, &reply),
+        }),
         Err(_) => Err(LineFault::NoMemory),
     }
 }
@@ -520,12 +543,12 @@ fn finish<K: Sink, E: Lookahead, W: Writer, D: Store>(
     ensures short { IfOk result (λ last. AllByRecursion IsShort last.records) }
     ensures finished { IfOk result (λ last. Finished
         (saving (⟦<Managers as KeyTable>⟧.table talk.entry.session.managers.now) (W.form writer.now))
-        (going talk.entry.session.keyset talk.entry.line.items talk.entry.count) last
+        (going talk.entry.session.keyset talk.entry.line.items talk.entry.count talk.entry.unsaved) last
         (outside (K.state sink.old) [] (E.state entropy.old) (D.state store.old))
         (outside (K.state sink.new) [] (E.state entropy.new) (D.state store.new))) }
     ensures stopped { IfErr result (λ fault. Stopped
         (saving (⟦<Managers as KeyTable>⟧.table talk.entry.session.managers.now) (W.form writer.now))
-        (going talk.entry.session.keyset talk.entry.line.items talk.entry.count) ending InLine fault
+        (going talk.entry.session.keyset talk.entry.line.items talk.entry.count talk.entry.unsaved) ending InLine fault
         (outside (K.state sink.old) [] (E.state entropy.old) (D.state store.old))
         (outside (K.state sink.new) [] (E.state entropy.new) (D.state store.new))) }
 {

@@ -147,6 +147,7 @@ is_found options.From = record { word = refl; plain = refl; place = refl }
 is_found options.Hex = record { word = refl; plain = refl; place = refl }
 is_found options.As = record { word = refl; plain = refl; place = refl }
 is_found options.For = record { word = refl; plain = refl; place = refl }
+is_found options.Saved = record { word = refl; plain = refl; place = refl }
 
 -- how long its word is
 pub option_short : (name : OptionName) → length (option_row name).word ≤ 19
@@ -174,6 +175,7 @@ option_short options.From = omega arith
 option_short options.Hex = omega arith
 option_short options.As = omega arith
 option_short options.For = omega arith
+option_short options.Saved = omega arith
 
 -- options that exclude each other do so both ways, and are two
 abbrev AreRivals : OptionName → OptionName → Type 0
@@ -204,6 +206,7 @@ are_rivals options.From b is = absurd (cc)
 are_rivals options.Hex b is = absurd (cc)
 are_rivals options.As b is = absurd (cc)
 are_rivals options.For b is = absurd (cc)
+are_rivals options.Saved b is = absurd (cc)
 
 out_flag : (command : CommandName) → is_flag (out_form command) ≡ false
 out_flag commands.CreateKeyset = refl
@@ -299,3 +302,4 @@ flag_form options.From command = refl
 flag_form options.Hex command = refl
 flag_form options.As command = refl
 flag_form options.For command = refl
+flag_form options.Saved command = refl

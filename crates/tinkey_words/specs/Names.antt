@@ -71,7 +71,8 @@ abbrev pub derive_requires : List OptionName
 derive_requires = options.Keyset ∷ options.Length ∷ []
 
 abbrev pub session_may : List OptionName
-session_may = options.KeysetFormat ∷ options.Out ∷ options.OutFormat ∷ options.Master ∷ options.MasterFormat ∷ []
+session_may = options.KeysetFormat ∷ options.Out ∷ options.OutFormat ∷ options.Saved ∷ options.Master
+    ∷ options.MasterFormat ∷ []
 
 abbrev pub selftest_requires : List OptionName
 selftest_requires = options.Seed ∷ []
@@ -213,6 +214,7 @@ option_row options.From = option 20 (codes "--from") forms.Offset
 option_row options.Hex = option 21 (codes "--hex") forms.Flag
 option_row options.As = option 22 (codes "--as") forms.SealedForm
 option_row options.For = option 23 (codes "--for") forms.Command
+option_row options.Saved = option 24 (codes "--saved") forms.Flag
 
 -- all options, in the order of their places
 abbrev pub all_options : List OptionName
@@ -221,7 +223,7 @@ all_options =
     ∷ options.OutFormat ∷ options.Keyset ∷ options.KeysetFormat ∷ options.Ad ∷ options.AdHex
     ∷ options.TagHex ∷ options.Length ∷ options.Seed ∷ options.Lines ∷ options.Master
     ∷ options.MasterFormat ∷ options.NewMaster ∷ options.NewMasterFormat ∷ options.DekTemplate
-    ∷ options.File ∷ options.From ∷ options.Hex ∷ options.As ∷ options.For ∷ []
+    ∷ options.File ∷ options.From ∷ options.Hex ∷ options.As ∷ options.For ∷ options.Saved ∷ []
 
 -- the option that must not stand beside this one, which gives the same thing
 abbrev pub rival : OptionName → Option OptionName

@@ -165,8 +165,9 @@ pub data Asked : Type 0 where
   -- that it becomes
   open_range : (lock : Lock) (keyset : List ℕ) (form : Format) (ad : List ℕ) (range : AskedRange)
       (out : Option (List ℕ)) → Asked
-  -- the lines of the input, answered over such a keyset, and where the last keyset is put
-  session : (lock : Lock) (keyset : List ℕ) (form : Format) (out : KeysetFile) → Asked
+  -- the lines of the input, answered over such a keyset, where the last keyset is put, and whether lines seal
+  -- and tag only under a keyset that a file has
+  session : (lock : Lock) (keyset : List ℕ) (form : Format) (out : KeysetFile) (saved_only : Bool) → Asked
   -- so many lines of a session, made from a number, and what becomes of them
   self_test : (seed lines : ℕ) → Asked
   -- what a topic has to say, and the version
@@ -308,6 +309,10 @@ new_lock values = relocked (lock_of (values options.NewMaster) (values options.N
 abbrev pub output_in : Values → Output
 output_in values = record { file = values options.Out; hex = is_some (values options.Hex) }
 
+-- a session seals and tags only under a keyset that a file has
+abbrev pub saved_only : Values → Bool
+saved_only values = is_some (values options.Saved)
+
 -- a keyset that is changed so
 abbrev pub edited : AskedEdit → Values → Asked
 edited edit values = edit_keyset (lock values) edit (taken_from values) (put_to values)
@@ -374,7 +379,7 @@ asked_with commands.Selftest values =
     self_test (number (values options.Seed)) (lines_in (values options.Lines))
 asked_with commands.Session values =
     session (lock values) (text (values options.Keyset)) (form_in (values options.KeysetFormat))
-    (put_to values)
+    (put_to values) (saved_only values)
 asked_with commands.WrapKeyset values =
     convert_keyset None (relocked (lock values)) (taken_from values) (put_to values)
 asked_with commands.UnwrapKeyset values =
@@ -723,8 +728,8 @@ seen_command (asks.UseStream lock keyset form work ad output) =
     use_stream (seen_lock lock) keyset.now form work (seen_datum ad) (seen_name output)
 seen_command (asks.OpenRange lock keyset form ad range output) =
     open_range (seen_lock lock) keyset.now form (seen_datum ad) (seen_range range) (seen_name output)
-seen_command (asks.Session lock keyset form output) =
-    session (seen_lock lock) keyset.now form (seen_place output)
+seen_command (asks.Session lock keyset form output saved_only) =
+    session (seen_lock lock) keyset.now form (seen_place output) saved_only
 seen_command (asks.SelfTest seed lines) = self_test seed lines
 seen_command (asks.UseEnvelope lock keyset form template work output) =
     use_envelope (seen_lock lock) keyset.now form template.now (seen_envelope work) (seen_name output)

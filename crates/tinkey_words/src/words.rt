@@ -270,6 +270,7 @@ fn command_with<'a>(command: CommandName, given: &Options<'a>) -> Request<'a>
             keyset: given.text(OptionName::Keyset),
             form: given.form(OptionName::KeysetFormat),
             output: given.put_to(),
+            saved_only: given.saved_only(),
         },
         CommandName::Selftest => Request::SelfTest {
             seed: given.number(OptionName::Seed),

@@ -126,13 +126,15 @@ pub enum OptionName {
     As,
     /// `--for`, the command that the templates' keys are to serve.
     For,
+    /// `--saved`, seals and tags only under a keyset that a file has.
+    Saved,
 }
 
 /// How many commands there are.
 const COMMAND_COUNT: usize = 32;
 
 /// How many options there are.
-pub const OPTION_COUNT: usize = 24;
+pub const OPTION_COUNT: usize = 25;
 
 /// A command's word, the options that it requires, and those that it may have.
 #[derive(Clone, Copy)]
@@ -321,10 +323,11 @@ const VERIFY_MAY: [OptionName; 3] = [
 
 const DERIVE_REQUIRES: [OptionName; 2] = [OptionName::Keyset, OptionName::Length];
 
-const SESSION_MAY: [OptionName; 5] = [
+const SESSION_MAY: [OptionName; 6] = [
     OptionName::KeysetFormat,
     OptionName::Out,
     OptionName::OutFormat,
+    OptionName::Saved,
     OptionName::Master,
     OptionName::MasterFormat,
 ];
@@ -422,6 +425,7 @@ impl OptionName {
             OptionName::Hex => option("--hex", ValueForm::Flag),
             OptionName::As => option("--as", ValueForm::SealedForm),
             OptionName::For => option("--for", ValueForm::Command),
+            OptionName::Saved => option("--saved", ValueForm::Flag),
         }
     }
 
@@ -551,4 +555,5 @@ pub const OPTIONS: [OptionName; OPTION_COUNT] = [
     OptionName::Hex,
     OptionName::As,
     OptionName::For,
+    OptionName::Saved,
 ];

@@ -2,7 +2,7 @@
 
 ghost use Rattle.std.specs.Prelude.{◌≡◌, ◌<◌, ◌≤◌, ◌^◌, Some, length, slice_set, None};
 ghost use Rattle.tinkey_words.specs.declared.words.names.OptionName.TheVariants.{As, Lines};
-ghost use Rattle.tinkey_words.specs.Words.{lines_in, is_barred, bar, no_options, text, number, id, template, ad, edited, enveloped, streamed, worked, seen_command, seen_datum, seen_edit, seen_envelope, seen_name, seen_options, seen_range, seen_work, offset, range, range_length, form_in, sealed_in, taken_from, put_to, seen_place, output_in, seen_output, convert_keyset, lock, lock_of, new_lock, relocked, seen_lock, seen_new_lock, served};
+ghost use Rattle.tinkey_words.specs.Words.{lines_in, is_barred, bar, no_options, text, number, id, template, ad, edited, enveloped, streamed, worked, saved_only, seen_command, seen_datum, seen_edit, seen_envelope, seen_name, seen_options, seen_range, seen_work, offset, range, range_length, form_in, sealed_in, taken_from, put_to, seen_place, output_in, seen_output, convert_keyset, lock, lock_of, new_lock, relocked, seen_lock, seen_new_lock, served};
 
 use super::names::OPTION_COUNT;
 use super::rows::{MOST_RANGE, format_named, offset_in, primitive_named, sealed_form_named};
@@ -199,6 +199,13 @@ impl<'a> Options<'a> {
             Some(text) => Datum::Plain(text),
             None => Datum::Hex(self.text(OptionName::AdHex)),
         }
+    }
+
+    /// Whether a session seals and tags only under a keyset that a file has.
+    pub(super) fn saved_only(&self) -> bool
+        ensures { result ≡ saved_only (seen_options self.now).values }
+    {
+        self.value(OptionName::Saved).is_some()
     }
 
     /// Work by the keys of a keyset.

@@ -116,6 +116,8 @@ pub enum Request<'a> {
         form: Format,
         /// Where the last keyset is put; nowhere if no file is named.
         output: KeysetFile<'a>,
+        /// Whether a line that seals or tags is refused while an edit is in no file.
+        saved_only: bool,
     },
     /// Answer lines made from a number, and report their outcomes.
     SelfTest {

@@ -5,7 +5,7 @@ use Rattle.tinkey_session.specs.Feeding.{point}
 use Rattle.tinkey_session.proofs.talk.finish.Goals as goal
 
 pub returns-then-is_empty-clause-finished : goal.returns-then-is_empty-clause-finished
-returns-then-is_empty-clause-finished g c = finished_none _ (point c.args.talk.session.keyset c.args.talk.line.items c.args.talk.count) _ _ _ (grind (arith, nat_tests, c.is_empty.ensures, c.if-is_empty.true))
+returns-then-is_empty-clause-finished g c = finished_none _ (point c.args.talk.session.keyset c.args.talk.line.items c.args.talk.count c.args.talk.unsaved) _ _ _ (grind (arith, nat_tests, c.is_empty.ensures, c.if-is_empty.true))
 
 pub returns-in-Err-clause-stopped : goal.returns-in-Err-clause-stopped
 returns-in-Err-clause-stopped g c = stopped_last _ _ _ _ _ (grind (arith, nat_tests, c.is_empty.ensures, c.if-is_empty.false)) (rw c.requires.none at c.in-Err.ensures.stopped)

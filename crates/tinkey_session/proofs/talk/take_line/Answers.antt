@@ -8,7 +8,7 @@ returns-in-Ok-tell-clause-fed g c = fed_line _ _ _ _ _ _ _ _ c.deref.ensures.val
     (c.in-Ok-tell.ensures.no_fault ∙ c.in-Ok.ensures.no_fault)
 
 pub returns-in-Ok-clause-stopped : goal.returns-in-Ok-clause-stopped
-returns-in-Ok-clause-stopped g c = torn_line _ _ _ _ _ _ _ _ c.deref.ensures.value c.deref-in-Ok.ensures.value c.in-Ok.ensures.replied
+returns-in-Ok-clause-stopped g c = torn_line _ _ _ _ _ _ _ _ _ c.deref.ensures.value c.deref-in-Ok.ensures.value c.in-Ok.ensures.replied
     (held_cut _ _ _ _ _ _ (held_with _ _ _ _ _ _ c.in-Ok.ensures.told) c.in-Err-tell.ensures.prefix)
     (rose_later _ _ _ c.in-Ok.ensures.told.took.faults c.in-Err-tell.ensures.failed)
 

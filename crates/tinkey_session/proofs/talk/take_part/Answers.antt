@@ -31,7 +31,7 @@ returns-in-Ok-extend_from_slice-clause-fed g c =
     let front = c.before_newline-front.result in
     let bytes = c.args.bytes.now in
     fed_in_line _ _ _ (take front bytes) _ (omega arith) c.before_newline-front.ensures.none
-    (omega (arith, length-take-le front bytes c.before_newline-front.ensures.within, c.args.talk.now.fits)) refl refl
+    (omega (arith, length-take-le front bytes c.before_newline-front.ensures.within, c.args.talk.now.fits)) refl refl refl
     c.in-Ok-extend_from_slice.ensures.items
 
 pub returns-in-Err-extend_from_slice-clause-stopped : goal.returns-in-Err-extend_from_slice-clause-stopped

@@ -12,7 +12,7 @@ invariant-loop-i g l = record {
   few : l.talk.count ≤ count_limit;
   table : (ghosts g.dyn-1 g.dyn-2 g.dyn-3 g.dyn-4).table l.talk.session.managers.now ≡ (ghosts g.dyn-1 g.dyn-2 g.dyn-3 g.dyn-4).table l.fn.talk.session.managers.now;
   less : progress l.fn.talk.count l.fn.talk.line.items + l.i ≤ progress l.talk.count l.talk.line.items;
-  fed : Fed (saving ((ghosts g.dyn-1 g.dyn-2 g.dyn-3 g.dyn-4).table l.fn.talk.session.managers.now) (g.W.Writer.form l.fn.writer)) (going l.fn.talk.session.keyset l.fn.talk.line.items l.fn.talk.count) (point l.talk.session.keyset l.talk.line.items l.talk.count)
+  fed : Fed (saving ((ghosts g.dyn-1 g.dyn-2 g.dyn-3 g.dyn-4).table l.fn.talk.session.managers.now) (g.W.Writer.form l.fn.writer)) (going l.fn.talk.session.keyset l.fn.talk.line.items l.fn.talk.count l.fn.talk.unsaved) (point l.talk.session.keyset l.talk.line.items l.talk.count l.talk.unsaved)
       (taking (take l.i l.piece))
       (outside (g.K.Sink.state l.fn.sink) l.fn.talk.replies.items (g.E.Entropy.state l.fn.entropy) (g.D.Store.state l.fn.store)) (outside (g.K.Sink.state l.sink) l.talk.replies.items (g.E.Entropy.state l.entropy) (g.D.Store.state l.store));
 }

@@ -14,7 +14,7 @@ loop-n-init g c = record {
   goes_on = nothing_goes_on (g.S.Source.state c.args.source.now);
   room = omega arith;
   table = c.new.ensures.table;
-  is = talking_none _ _ _ _ _ c.new.ensures.keyset c.new-2.ensures.items refl;
+  is = talking_none _ _ _ _ _ c.new.ensures.keyset c.new-2.ensures.items refl refl;
 }
 
 pub returns-in-Err-clause-talks : goal.returns-in-Err-clause-talks

@@ -16,7 +16,7 @@ invariant-loop-n g l = record {
   goes_on : GoesOn (g.S.Source.state l.fn.source) (g.S.Source.state l.source);
   room : 0 < length l.buffer;
   table : (ghosts g.dyn-1 g.dyn-2 g.dyn-3 g.dyn-4).table l.talk.session.managers.now ≡ (ghosts g.dyn-1 g.dyn-2 g.dyn-3 g.dyn-4).table l.fn.managers;
-  is : Talking (saving ((ghosts g.dyn-1 g.dyn-2 g.dyn-3 g.dyn-4).table l.fn.managers) (g.W.Writer.form l.fn.writer)) l.fn.keyset (point l.talk.session.keyset l.talk.line.items l.talk.count)
+  is : Talking (saving ((ghosts g.dyn-1 g.dyn-2 g.dyn-3 g.dyn-4).table l.fn.managers) (g.W.Writer.form l.fn.writer)) l.fn.keyset (point l.talk.session.keyset l.talk.line.items l.talk.count l.talk.unsaved)
       (sides (g.S.Source.state l.fn.source) (g.K.Sink.state l.fn.sink) (g.E.Entropy.state l.fn.entropy)) (sides (g.S.Source.state l.source) (g.K.Sink.state l.sink) (g.E.Entropy.state l.entropy))
       (g.D.Store.state l.fn.store) (g.D.Store.state l.store);
 }
