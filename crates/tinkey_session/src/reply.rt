@@ -41,7 +41,7 @@ pub enum Refusal {
 pub enum LineRefusal {
     /// It isn't of the grammar of lines.
     BadLine,
-    /// The keyset differs from its file and from the last one saved, and is to be saved first.
+    /// An accepted edit stands that no later line has saved, and the line seals or tags.
     NotSaved,
     /// No key opens the bytes. A command reports more about them, so it has a status of its own.
     OpenFailed,

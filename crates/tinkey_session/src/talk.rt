@@ -68,7 +68,7 @@ struct TalkState<'m> {
 /// fails, the reply says so, and the session goes on; with a `NoWriter` it is a bad line.
 ///
 /// If the writer is `saved_only`, lines that seal or tag are refused while an accepted edit stands
-/// that no later line has saved: the keyset differs from the one given and from the last one saved.
+/// that no later line has saved.
 ///
 /// A line ends with a newline; a last one without it counts if it isn't empty. Before each read the
 /// replies to all complete lines are written. The session ends early if a byte is past a limit:
