@@ -13,7 +13,9 @@ ghost use Rattle.ghash.specs.GhashState.{IsSubkey};
 use aes_core::blocks::same_bytes;
 use aes_core::{Aes, CtrKind, KeySize};
 use ghash::{Ghash, HashKey};
+use std::alloc::Global;
 use std::marker::Model;
+use tink_base::NoMemory;
 
 // Up to this many bytes of associated data and text GHASH makes no powers of the subkey, so no
 // memory is kept for them.
@@ -95,23 +97,29 @@ impl Gcm {
 /// Contracts see the bytes of the key.
 ///
 /// It takes about 800 bytes, so borrow it rather than move it; many may borrow it at once. Powers
-/// of the hash subkey are made again for each message that is long enough to pay for them.
+/// of the hash subkey are made again for each message that is long enough to pay for them, unless
+/// they are made ahead, in 4 KiB of memory.
 #[derive(Drop)]
 pub struct GcmKey {
     aes: Aes,
     hash: HashKey,
+    // A GHASH of no block with all powers of the subkey, if they are made ahead.
+    ahead: Option<Box<Ghash>>,
 }
 
 impl Model for GcmKey {
     ghost use Rattle.std.specs.Prelude.{ℕ, List};
     ghost use Rattle.aead_kinds.specs.Gcm.{hash_subkey};
+    ghost use Rattle.aead_kinds.specs.GcmState.{RunsUnder};
     ghost use Rattle.ghash.specs.GhashState.{IsSubkey};
+    ghost use Rattle.std.specs.Prelude.{IfSome};
 
     ghost Value = { List ℕ };
 
     ghost view = { λ gcm. gcm.aes };
 
-    ghost invariant = { λ gcm. IsSubkey gcm.hash (hash_subkey gcm.aes) };
+    ghost invariant = { λ gcm. IsSubkey gcm.hash (hash_subkey gcm.aes)
+        × IfSome gcm.ahead (λ hash. RunsUnder hash.value gcm.aes) };
 }
 
 impl GcmKey {
@@ -124,7 +132,20 @@ impl GcmKey {
     {
         let aes = Aes::new(key)?;
         let hash = subkey_of(&aes);
-        Ok(GcmKey { aes, hash })
+        Ok(GcmKey {
+            aes,
+            hash,
+            ahead: None,
+        })
+    }
+
+    /// Makes the powers of the hash subkey ahead, for a key that has many long messages. Without
+    /// memory for them the key stays as it was.
+    pub fn prepare_ahead(&mut self, alloc: Global) -> Result<(), NoMemory>
+        ensures { self.new ≡ self.old }
+    {
+        self.ahead = Some(Box::new(alloc, with_powers(&self.aes, &self.hash))?);
+        Ok(())
     }
 
     /// Encrypts `body` in place and returns the tag (SP 800-38D, 7.1), as `Gcm::seal_in_place`
@@ -167,7 +188,18 @@ impl GcmKey {
         if ad.len() + text.len() <= SHORT {
             return short_tag_of(&self.aes, &self.hash, iv, ad, text);
         }
-        tag_of(&self.aes, &mut started(&self.aes, &self.hash), iv, ad, text)
+        let mut hash = self.started();
+        tag_of(&self.aes, &mut hash, iv, ad, text)
+    }
+
+    // GHASH of no block, with its powers if they are made ahead.
+    fn started(&self) -> Ghash
+        ensures { RunsUnder result self.now }
+    {
+        match &self.ahead {
+            Some(hash) => **hash,
+            None => started(&self.aes, &self.hash),
+        }
     }
 }
 
@@ -184,6 +216,14 @@ fn started(aes: &Aes, key: &HashKey) -> Ghash
     ensures { RunsUnder result aes.now }
 {
     Ghash::under(key)
+}
+
+// The same with all powers of H.
+fn with_powers(aes: &Aes, key: &HashKey) -> Ghash
+    requires { IsSubkey key.now (hash_subkey aes.now) }
+    ensures { RunsUnder result aes.now }
+{
+    Ghash::with_powers(key)
 }
 
 fn seal_with(aes: &Aes, hash: &mut Ghash, iv: &[u8; 12], ad: &[u8], body: &mut [u8]) -> [u8; 16]

@@ -59,7 +59,7 @@ impl HashKey {
 /// No branch and no memory address depends on the subkey or the data, only on lengths. At first
 /// only H is a factor, so a short message is cheap; the other powers are made once, when the bytes
 /// of all messages under the subkey together pay for them.
-#[derive(Drop)]
+#[derive(Clone, Copy, Drop)]
 pub struct Ghash {
     factors: [Factor; 8],
     // How many of the factors are made, from the last on: 1, 4 or 8.
@@ -90,6 +90,15 @@ impl Ghash {
             y: 0,
         };
         hash.factors[7] = key.factor;
+        hash
+    }
+
+    /// The same with all powers made at once, to be copied for each message.
+    pub fn with_powers(key: &HashKey) -> Ghash
+        ensures { (h : ℕ) → IsSubkey key.now h → Holds result h [] }
+    {
+        let mut hash = Ghash::under(key);
+        hash.prepare(PAYS_FOR_EIGHT);
         hash
     }
 

@@ -9,7 +9,9 @@ use aes_core::Aes;
 use key_msgs::KeyKind;
 use mac_prf::{Hmac, hkdf_extract};
 use siv_daead::SivKey;
+use std::alloc::Global;
 use std::marker::Model;
+use tink_base::NoMemory;
 
 /// A valid key, prepared once for all its work. Contracts see the key.
 ///
@@ -63,6 +65,18 @@ impl Prepared {
     {
         let made = made_of(&kind);
         Prepared { kind, made }
+    }
+
+    /// Makes ahead what long messages under the key need again and again: the powers of the hash
+    /// subkey of AES-GCM, in 4 KiB of memory, and nothing of other keys. Without memory for them
+    /// the key stays as it was.
+    pub fn prepare_ahead(&mut self, alloc: Global) -> Result<(), NoMemory>
+        ensures { self.new ≡ self.old }
+    {
+        match &mut self.made {
+            Made::Gcm(gcm) => gcm.prepare_ahead(alloc),
+            _ => Ok(()),
+        }
     }
 
     /// The key. No memory is taken.

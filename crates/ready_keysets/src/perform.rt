@@ -1,10 +1,11 @@
 //! Work under the standard managers, whatever the primitive.
 
-ghost use Rattle.std.specs.Prelude.{◌≡◌, ◌≢◌, ◌≤◌, ◌^◌, length, Some, IfOk, IfErr, OnErr};
+ghost use Rattle.std.specs.Prelude.{◌≡◌, ◌≢◌, ◌≤◌, ◌^◌, ℕ, List, Option, length, Some, IfOk, IfErr, OnErr};
 ghost use Rattle.std.specs.Option.{option_map};
 ghost use Rattle.key_msgs.specs.declared.primitive.Primitive.TheVariants.{Aead, Daead, Mac, Prf, Stream};
 ghost use Rattle.keyset_model.specs.Keyset.{Keys};
 ghost use Rattle.managers.specs.Standard.{standard_table};
+ghost use Rattle.tink_spec.specs.InPlace.{OpensTo};
 ghost use Rattle.wrapped_prims.specs.Answers.{Sealed, derive_answer, dopen_answer, dseal_answer, open_answer, seal_answer, tag_answer, verify_answer};
 ghost use Rattle.wrapped_prims.specs.Making.{IsOver};
 ghost use Rattle.ready_keysets.specs.Working.{IsAnswered, IsUnfit, IsWithin, answer, derived, lack_of, primitive_of, verified};
@@ -17,10 +18,11 @@ use keyset_model::Keyset;
 use managers::{KeyTable, Managers};
 use std::alloc::Global;
 use std::mem::replace;
+use std::ops::Range;
 use tink_base::{Drawn, Trials};
 use wrapped_prims::{DeriveFault, Handle, HandleError, HeldKeys, SealFault};
 
-/// The keys of a keyset, checked and prepared for a primitive.
+/// The keys of a keyset, checked and prepared for a primitive, for many calls.
 pub(crate) fn hold(
     alloc: Global,
     keyset: &Keyset,
@@ -33,7 +35,11 @@ pub(crate) fn hold(
 {
     let managers = Managers::standard();
     match Handle::new(alloc, keyset, &managers, primitive) {
-        Ok(handle) => Ok(handle.into_keys()),
+        Ok(handle) => {
+            let mut keys = handle.into_keys();
+            keys.prepare_ahead(alloc)?;
+            Ok(keys)
+        }
         Err(HandleError::NoMemory) => Err(Refusal::NoMemory),
         Err(_) => Err(Refusal::UnfitKey),
     }
@@ -102,14 +108,17 @@ fn put(bytes: &[u8], out: &mut [u8]) -> Result<usize, Refusal>
     Ok(bytes.len())
 }
 
-/// Writes a plaintext at the front of the output, if one was found.
-fn put_found(found: Option<Vec<u8>>, out: &mut [u8]) -> Result<usize, Refusal>
-    ensures answered { IsAnswered refusals.Refused (option_map (λ plain. plain.items) found)
-        out.old out.new result }
+/// Writes a plaintext that stands in these bytes at the front of the output, if one was found.
+fn put_found(bytes: &[u8], found: Option<Range<usize>>, out: &mut [u8]) -> Result<usize, Refusal>
+    requires opened { (plain : Option (List ℕ)) × (sealed : List ℕ)
+        × OpensTo plain sealed bytes.now found }
+    ensures answered { (plain : Option (List ℕ)) (sealed : List ℕ)
+        → OpensTo plain sealed bytes.now found
+        → IsAnswered refusals.Refused plain out.old out.new result }
     ensures kept { OnErr result (out.new ≡ out.old) }
 {
     match found {
-        Some(plain) => put(&plain, out),
+        Some(range) => put(&bytes[range], out),
         None => Err(Refusal::Refused),
     }
 }
@@ -154,8 +163,30 @@ fn open(
         out.new result }
     ensures kept { OnErr result (out.new ≡ out.old) }
 {
-    let plain = handle.open(alloc, sealed, ad, &mut Trials::new())?;
-    put_found(plain, out)
+    match sealed.to_vec(alloc) {
+        Ok(mut bytes) => open_within(handle, &mut bytes, ad, out),
+        Err(_) => Err(Refusal::NoMemory),
+    }
+}
+
+/// Opens these bytes in place, and writes the plaintext at the front of the output.
+fn open_within(
+    handle: &Handle<'_>,
+    bytes: &mut [u8],
+    ad: &[u8],
+    out: &mut [u8],
+) -> Result<usize, Refusal>
+    requires table { ⟦<Managers as KeyTable>⟧.table handle.now.managers.now ≡ standard_table }
+    requires over { (of : Keys) × IsOver standard_table Aead of handle.now.held }
+    requires bytes_bound { length bytes.old ≤ 2 ^ 30 }
+    requires ad_bound { length ad.now ≤ 2 ^ 30 }
+    ensures answered { (of : Keys) → IsOver standard_table Aead of handle.now.held
+        → IsAnswered refusals.Refused (open_answer of standard_table bytes.old ad.now) out.old
+        out.new result }
+    ensures kept { OnErr result (out.new ≡ out.old) }
+{
+    let found = handle.open_within(bytes, ad);
+    put_found(bytes, found, out)
 }
 
 fn dseal(
@@ -194,8 +225,30 @@ fn dopen(
         out.new result }
     ensures kept { OnErr result (out.new ≡ out.old) }
 {
-    let plain = handle.dopen(alloc, sealed, ad, &mut Trials::new())?;
-    put_found(plain, out)
+    match sealed.to_vec(alloc) {
+        Ok(mut bytes) => dopen_within(handle, &mut bytes, ad, out),
+        Err(_) => Err(Refusal::NoMemory),
+    }
+}
+
+/// Opens these bytes in place, and writes the plaintext at the front of the output.
+fn dopen_within(
+    handle: &Handle<'_>,
+    bytes: &mut [u8],
+    ad: &[u8],
+    out: &mut [u8],
+) -> Result<usize, Refusal>
+    requires table { ⟦<Managers as KeyTable>⟧.table handle.now.managers.now ≡ standard_table }
+    requires over { (of : Keys) × IsOver standard_table Daead of handle.now.held }
+    requires bytes_bound { length bytes.old ≤ 2 ^ 30 }
+    requires ad_bound { length ad.now ≤ 2 ^ 30 }
+    ensures answered { (of : Keys) → IsOver standard_table Daead of handle.now.held
+        → IsAnswered refusals.Refused (dopen_answer of standard_table bytes.old ad.now) out.old
+        out.new result }
+    ensures kept { OnErr result (out.new ≡ out.old) }
+{
+    let found = handle.dopen_within(bytes, ad);
+    put_found(bytes, found, out)
 }
 
 fn tag(alloc: Global, handle: &Handle<'_>, body: &[u8], out: &mut [u8]) -> Result<usize, Refusal>

@@ -14,10 +14,25 @@ use Rattle.managers.specs.Table.{Table, entries_of}
 use Rattle.wrapped_prims.proofs.OpenLemmas.{KeptAs, count-raw, count-under, kept_as, none_here, off, on}
 use Rattle.wrapped_prims.specs.Candidates.{candidates, each_with, enabled_with}
 use Rattle.wrapped_prims.specs.Fitness.{fault_of_record, key_of_record, unfit_from}
-use Rattle.wrapped_prims.specs.Held.{IsPrimary, IsServedBy, kept_in, kept_of, kept_raw, kept_under, kept_with}
+use Rattle.wrapped_prims.specs.Held.{AreServed, IsPrimary, IsServedBy, kept_in, kept_of, kept_raw, kept_under, kept_with}
 use Rattle.wrapped_prims.specs.Making.{IsOver}
 use Rattle.wrapped_prims.specs.declared.held.Held.{Held}
 use Rattle.wrapped_prims.specs.declared.held.Kept.{Kept}
+
+-- what is held of a keyset is so while all of it is the same
+pub over_again : (table : Table) (p : Primitive) (keys : Keys) (old new : Held)
+    → new.slots.items ≡ old.slots.items → new.index ≡ old.index → new.raw ≡ old.raw → new.primary ≡ old.primary
+    → IsOver table p keys old → IsOver table p keys new
+over_again table p keys old new slots index raw primary over = record {
+  fit = over.fit;
+  faultless = over.faultless;
+  kept = slots ∙ over.kept;
+  primary = ap (slice_get keys.records) primary ∙ over.primary;
+  index = (λ j. (index j).entries) ∙ over.index;
+  raw = (λ j. (raw j).items) ∙ over.raw;
+  served = subst (AreServed table p) (sym slots) over.served;
+  words = over.words;
+}
 
 -- at most one trial for each candidate
 pub few_trials : (table : Table) (p : Primitive) (keys : Keys) (held : Held) (bytes : List ℕ) (before now : ℕ) → IsOver table p keys held

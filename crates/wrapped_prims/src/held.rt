@@ -4,10 +4,13 @@ ghost use Rattle.std.specs.Prelude.{◌≡◌, ◌<◌, ◌≤◌, ◌^◌, [], 
 ghost use Rattle.std.specs.HashMap.{IsUnique};
 ghost use Rattle.std.specs.Int.{to_be_bytes, w32};
 ghost use Rattle.std.specs.Str.{bytes_eq};
+ghost use Rattle.key_msgs.specs.declared.primitive.Primitive.{Primitive as PrimitiveValue};
+ghost use Rattle.keyset_model.specs.Keyset.{Keys};
+ghost use Rattle.managers.specs.Table.{Table};
 ghost use Rattle.wrapped_prims.specs.Adding.{IsAdded, IsListedAt, IsOfNone, IsOfSlots, IsPlacedBy, noted};
 ghost use Rattle.wrapped_prims.specs.Candidates.{prefix_bytes, prefix_of};
 ghost use Rattle.wrapped_prims.specs.Held.{places_at};
-ghost use Rattle.wrapped_prims.specs.Making.{HasWordId};
+ghost use Rattle.wrapped_prims.specs.Making.{HasWordId, IsOver};
 
 use crate::places::Places;
 use indexmap::IndexMap;
@@ -87,6 +90,14 @@ impl Held {
         Ok(held)
     }
 
+    /// Makes ahead what long messages under the kept keys need again and again.
+    pub(crate) fn prepare_ahead(&mut self, alloc: Global) -> Result<(), NoMemory>
+        ensures { (table : Table) (primitive : PrimitiveValue) (keys : Keys)
+            → IsOver table primitive keys self.old → IsOver table primitive keys self.new }
+    {
+        prepare_slots(alloc, &mut self.slots)
+    }
+
     // Lists the place, if a key is kept there.
     fn list_at(&mut self, alloc: Global, place: usize) -> Result<(), NoMemory>
         requires { place < length self.old.slots.items }
@@ -126,6 +137,26 @@ impl Held {
             },
             Err(_) => &[],
         }
+    }
+}
+
+// Prepares ahead each key that is kept.
+fn prepare_slots(alloc: Global, slots: &mut [Option<Kept>]) -> Result<(), NoMemory>
+    ensures { slots.new ≡ slots.old }
+{
+    for i in 0..slots.len() {
+        prepare_slot(alloc, &mut slots[i])?;
+    }
+    Ok(())
+}
+
+// Prepares ahead the key that is kept here, if there is one.
+fn prepare_slot(alloc: Global, slot: &mut Option<Kept>) -> Result<(), NoMemory>
+    ensures { slot.new ≡ slot.old }
+{
+    match slot {
+        Some(kept) => kept.key.prepare_ahead(alloc),
+        None => Ok(()),
     }
 }
 

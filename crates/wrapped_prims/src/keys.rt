@@ -1,12 +1,17 @@
 //! What a handle keeps, without its managers.
 
 ghost use Rattle.std.specs.Prelude.{◌≡◌};
+ghost use Rattle.key_msgs.specs.declared.primitive.Primitive.{Primitive as PrimitiveValue};
+ghost use Rattle.keyset_model.specs.Keyset.{Keys};
+ghost use Rattle.managers.specs.Table.{Table};
+ghost use Rattle.wrapped_prims.specs.Making.{IsOver};
 
 use crate::Handle;
 use crate::held::Held;
 use key_msgs::Primitive;
 use managers::{KeyTable, Managers};
 use std::alloc::Global;
+use tink_base::NoMemory;
 
 /// The checked and prepared keys of a handle. A program that can't lend managers for as long as it
 /// keeps the keys keeps these, and makes a handle of them under managers of the same table again.
@@ -30,6 +35,18 @@ impl HeldKeys {
         ensures { result ≡ self.now.primitive }
     {
         self.primitive
+    }
+
+    /// Makes ahead what long messages under these keys need again and again, as
+    /// `Prepared::prepare_ahead` does: for keys that are kept for many messages. The keys are what
+    /// they were, also if there isn't memory for that.
+    pub fn prepare_ahead(&mut self, alloc: Global) -> Result<(), NoMemory>
+        ensures primitive { self.new.primitive ≡ self.old.primitive }
+        ensures over { (table : Table) (primitive : PrimitiveValue) (keys : Keys)
+            → IsOver table primitive keys self.old.held
+            → IsOver table primitive keys self.new.held }
+    {
+        self.held.prepare_ahead(alloc)
     }
 }
 

@@ -3,6 +3,7 @@
 ghost use Rattle.std.specs.Prelude.{◌≡◌, ◌+◌, ◌^◌, ◌≤◌, length, IfOk, option_map, take};
 ghost use Rattle.key_msgs.specs.declared.primitive.Primitive.TheVariants.{Aead, Daead, Mac};
 ghost use Rattle.keyset_model.specs.Keyset.{Keys};
+ghost use Rattle.tink_spec.specs.InPlace.{OpensTo};
 ghost use Rattle.wrapped_prims.specs.Answers.{dopen_answer, open_answer, open_trials, verify_answer, verify_trials};
 ghost use Rattle.wrapped_prims.specs.Candidates.{candidates};
 ghost use Rattle.wrapped_prims.specs.Held.{AreServed, Opens, kept_raw, kept_under, open_kept, tries_kept};
@@ -14,6 +15,7 @@ use crate::trying::{try_all, verify_all};
 use key_msgs::Primitive;
 use managers::{KeyTable, Managers};
 use std::alloc::Global;
+use std::ops::Range;
 use tink_base::{NoMemory, Trials, part_of};
 
 // Opens the list in place with the kept keys of a primitive that can open.
@@ -75,6 +77,28 @@ impl Handle<'_> {
             Ok(bytes) => Ok(self.open_in_place(bytes, ad, trials)),
             Err(_) => Err(NoMemory),
         }
+    }
+
+    /// Opens as `open` does, and leaves the plaintext where it stands: returns its range in the
+    /// bytes. If no candidate opens them, they are unchanged. No memory is taken.
+    pub fn open_within(&self, bytes: &mut [u8], ad: &[u8]) -> Option<Range<usize>>
+        requires over { (keys : Keys)
+            × IsOver (⟦<Managers as KeyTable>⟧.table self.now.managers.now) Aead keys self.now.held }
+        requires bytes_bound { length bytes.old ≤ 2 ^ 30 + 96 }
+        requires ad_bound { length ad.now ≤ 2 ^ 30 }
+        ensures { (keys : Keys)
+            → IsOver (⟦<Managers as KeyTable>⟧.table self.now.managers.now) Aead keys self.now.held
+            → OpensTo (open_answer keys (⟦<Managers as KeyTable>⟧.table self.now.managers.now)
+            bytes.old ad.now) bytes.old bytes.new result }
+    {
+        try_all(
+            self.managers,
+            Primitive::Aead,
+            &self.held,
+            bytes,
+            ad,
+            &mut Trials::new(),
+        )
     }
 
     /// Opens as `open` does, in place: returns the list of the sealed bytes, now with only the
@@ -139,6 +163,28 @@ impl Handle<'_> {
             Ok(bytes) => Ok(self.dopen_in_place(bytes, ad, trials)),
             Err(_) => Err(NoMemory),
         }
+    }
+
+    /// Opens as `dopen` does, and leaves the plaintext where it stands: returns its range in the
+    /// bytes. If no candidate opens them, they are unchanged. No memory is taken.
+    pub fn dopen_within(&self, bytes: &mut [u8], ad: &[u8]) -> Option<Range<usize>>
+        requires over { (keys : Keys)
+            × IsOver (⟦<Managers as KeyTable>⟧.table self.now.managers.now) Daead keys self.now.held }
+        requires bytes_bound { length bytes.old ≤ 2 ^ 30 + 96 }
+        requires ad_bound { length ad.now ≤ 2 ^ 30 }
+        ensures { (keys : Keys)
+            → IsOver (⟦<Managers as KeyTable>⟧.table self.now.managers.now) Daead keys self.now.held
+            → OpensTo (dopen_answer keys (⟦<Managers as KeyTable>⟧.table self.now.managers.now)
+            bytes.old ad.now) bytes.old bytes.new result }
+    {
+        try_all(
+            self.managers,
+            Primitive::Daead,
+            &self.held,
+            bytes,
+            ad,
+            &mut Trials::new(),
+        )
     }
 
     /// Opens as `dopen` does, in place: returns the list of the sealed bytes, now with only the
