@@ -18,7 +18,8 @@
  *
  * Outputs. `out` has room for `out_room` bytes, and `*out_len` says how many were written. If the status isn't
  * TINKEY_OK, `out`, `*out_len` and `*handle` are as they were. The whole room of `out`, however much of it is written,
- * may overlap neither an input nor `*out_len`, and `*out_len` no input. `errno` is kept.
+ * may overlap neither an input nor `*out_len`, and `*out_len` no input. `errno` is kept. While tinkey_aead_seal runs, the
+ * plaintext stands in `out` until the ciphertext replaces it, so nobody else should read that memory meanwhile.
  *
  * Lengths. A pointer may be NULL where its length or room is 0. A length or room is at most PTRDIFF_MAX. Of an input
  * that a call takes whole, 2^30 bytes are the most; a stream has no such limit: neither its pieces, nor its associated

@@ -1,9 +1,11 @@
 //! Sealing and opening under a key of any kind.
 
-ghost use Rattle.std.specs.Prelude.{◌≡◌, ◌↔◌, ◌+◌, ◌^◌, ◌<◌, ◌≤◌, ◌++◌, ℕ, List, drop, length, take, vec_capacity, IfOk, OnErr, IsTrue};
+ghost use Rattle.std.specs.Prelude.{◌≡◌, ◌↔◌, ◌+◌, ◌^◌, ◌≤◌, ℕ, List, length, IsTrue};
 ghost use Rattle.tink_base.specs.declared.hash.Hash.{Hash};
 ghost use Rattle.tink_spec.specs.InPlace.{OpensTo};
 ghost use Rattle.aead_kinds.specs.Aead.{IsFit, IsUnder, iv_size_of, open_key, seal_of, tag_size_of};
+ghost use Rattle.aead_kinds.specs.EncryptThenTag.{text_of};
+ghost use Rattle.aead_kinds.specs.Gcm as gcm;
 ghost use Rattle.aead_kinds.specs.Gcm.{gcm_open, gcm_seal};
 
 use crate::gcm::GcmKey;
@@ -11,7 +13,6 @@ use crate::scheme::Scheme;
 use aes_core::Aes;
 use mac_prf::Hmac;
 use std::ops::Range;
-use tink_base::NoMemory;
 
 /// The bytes of an IV of AES-GCM.
 const GCM_IV: usize = 12;
@@ -74,35 +75,26 @@ impl AeadKey<'_> {
     }
 }
 
-/// Seals in place, and returns the same list: its first `at` bytes, unchanged, then the IV, the
-/// ciphertext and the tag.
+/// Seals in place: writes the IV into its room, the ciphertext over the plaintext, and the tag after
+/// it.
 ///
-/// The plaintext follows the first `at` bytes and room for the IV, whose values don't matter. It
-/// has at most 2^30 bytes, as many as its ciphertext, and so has `ad`. No IV may be used twice
-/// under one key: the caller must ensure that. `NoMemory` comes only if the list's capacity is
-/// below its length plus the tag's, at most 64 bytes, and memory for it can't be allocated.
+/// `sealed` is room for the IV, the plaintext, and room for the tag; the values in the two rooms
+/// don't matter. The plaintext has at most 2^30 bytes, as many as its ciphertext, and so has `ad`.
+/// No IV may be used twice under one key: the caller must ensure that. No memory is taken.
 #[tactic(auto, unfolding(crate::specs::Eax::eax_seal, crate::specs::CtrHmac::ctr_hmac_seal))]
-pub fn seal(
-    key: &AeadKey<'_>,
-    at: usize,
-    bytes: Vec<u8>,
-    iv: &[u8],
-    ad: &[u8],
-) -> Result<Vec<u8>, NoMemory>
+pub fn seal(key: &AeadKey<'_>, sealed: &mut [u8], iv: &[u8], ad: &[u8])
     requires fits { IsFit key.now }
     requires iv_size { length iv.now ≡ iv_size_of key.now }
-    requires room { at + length iv.now ≤ length bytes.items }
-    requires plain_bound { length bytes.items ≤ at + length iv.now + 2 ^ 30 }
+    requires room { iv_size_of key.now + tag_size_of key.now ≤ length sealed.old }
+    requires plain_bound { length sealed.old ≤ iv_size_of key.now + 2 ^ 30 + tag_size_of key.now }
     requires ad_bound { length ad.now ≤ 2 ^ 30 }
-    ensures sealed { (hash : Hash) (mac : List ℕ) → IsUnder key.now hash mac
-        → IfOk result (λ v. v.items ≡ take at bytes.items
-        ++ seal_of key.now hash mac iv.now (drop (at + length iv.now) bytes.items) ad.now) }
-    ensures no_memory { OnErr result
-        (vec_capacity bytes < length bytes.items + tag_size_of key.now) }
+    ensures { (hash : Hash) (mac : List ℕ) → IsUnder key.now hash mac
+        → sealed.new ≡ seal_of key.now hash mac iv.now
+        (text_of (iv_size_of key.now) (tag_size_of key.now) sealed.old) ad.now }
 {
     match key {
-        AeadKey::Gcm { key } => gcm_sealed(key, at, bytes, iv, ad),
-        AeadKey::Eax { key, .. } => Scheme::Eax { key }.seal(at, bytes, iv, ad),
+        AeadKey::Gcm { key } => gcm_sealed(key, sealed, iv, ad),
+        AeadKey::Eax { key, .. } => Scheme::Eax { key }.seal(sealed, iv, ad),
         AeadKey::CtrHmac {
             aes,
             mac,
@@ -110,7 +102,7 @@ pub fn seal(
             ..
         } => {
             let tag_size = *tag_size;
-            Scheme::CtrHmac { aes, mac, tag_size }.seal(at, bytes, iv, ad)
+            Scheme::CtrHmac { aes, mac, tag_size }.seal(sealed, iv, ad)
         }
     }
 }
@@ -144,50 +136,31 @@ pub fn open(key: &AeadKey<'_>, bytes: &mut [u8], ad: &[u8]) -> Option<Range<usiz
     }
 }
 
-fn gcm_sealed(
-    key: &GcmKey,
-    at: usize,
-    mut bytes: Vec<u8>,
-    iv: &[u8],
-    ad: &[u8],
-) -> Result<Vec<u8>, NoMemory>
+fn gcm_sealed(key: &GcmKey, sealed: &mut [u8], iv: &[u8], ad: &[u8])
     requires iv_size { length iv.now ≡ 12 }
-    requires room { at + length iv.now ≤ length bytes.items }
-    requires plain_bound { length bytes.items ≤ at + length iv.now + 2 ^ 30 }
+    requires room { 28 ≤ length sealed.old }
+    requires plain_bound { length sealed.old ≤ 2 ^ 30 + 28 }
     requires ad_bound { length ad.now ≤ 2 ^ 30 }
-    ensures sealed { IfOk result (λ v. v.items ≡ take at bytes.items
-        ++ gcm_seal key.now iv.now (drop (at + length iv.now) bytes.items) ad.now) }
-    ensures no_memory { OnErr result (vec_capacity bytes < length bytes.items + 16) }
+    ensures { sealed.new ≡ gcm_seal key.now iv.now (gcm.text_of sealed.old) ad.now }
 {
-    let tag = match iv.first_chunk::<GCM_IV>() {
-        Some(iv) => gcm_seal_behind(key, at, &mut bytes, iv, ad),
+    match iv.first_chunk::<GCM_IV>() {
+        Some(iv) => gcm_sealed_under(key, sealed, iv, ad),
         None => unreachable!(),
-    };
-    bytes.extend_from_slice(&tag)?;
-    Ok(bytes)
+    }
 }
 
-// Seals in place what follows the first `at` bytes, and returns the tag.
-fn gcm_seal_behind(key: &GcmKey, at: usize, bytes: &mut [u8], iv: &[u8; 12], ad: &[u8]) -> [u8; 16]
-    requires room { at + 12 ≤ length bytes.old }
-    requires bytes_bound { length bytes.old ≤ at + 12 + 2 ^ 30 }
+// Writes the IV into its room, encrypts in place what follows, and writes the tag.
+fn gcm_sealed_under(key: &GcmKey, sealed: &mut [u8], iv: &[u8; 12], ad: &[u8])
+    requires room { 28 ≤ length sealed.old }
+    requires plain_bound { length sealed.old ≤ 2 ^ 30 + 28 }
     requires ad_bound { length ad.now ≤ 2 ^ 30 }
-    ensures { bytes.new ++ result ≡ take at bytes.old
-        ++ gcm_seal key.now iv.now (drop 12 (drop at bytes.old)) ad.now }
+    ensures { sealed.new ≡ gcm_seal key.now iv.now (gcm.text_of sealed.old) ad.now }
 {
-    gcm_seal_under_iv(key, &mut bytes[at..], iv, ad)
-}
-
-// Writes the IV into its room, encrypts in place what follows, and returns the tag.
-fn gcm_seal_under_iv(key: &GcmKey, sealed: &mut [u8], iv: &[u8; 12], ad: &[u8]) -> [u8; 16]
-    requires room { 12 ≤ length sealed.old }
-    requires sealed_bound { length sealed.old ≤ 2 ^ 31 }
-    requires ad_bound { length ad.now ≤ 2 ^ 30 }
-    ensures { sealed.new ++ result ≡ gcm_seal key.now iv.now (drop 12 sealed.old) ad.now }
-{
-    let (room, body) = sealed.split_at_mut(GCM_IV);
+    let end = sealed.len() - TAG - GCM_IV;
+    let (room, rest) = sealed.split_at_mut(GCM_IV);
     room.copy_from_slice(iv);
-    key.seal_in_place(iv, ad, body)
+    let (body, tag) = rest.split_at_mut(end);
+    tag.copy_from_slice(&key.seal_in_place(iv, ad, body));
 }
 
 // Opens in place, and returns the plaintext's range.

@@ -3,19 +3,18 @@
 //! No branch and no memory address depends on the key or on a byte of text, associated data or tag,
 //! except for the result of the tag's comparison: the bodies are written so, but no clause says it.
 
-ghost use Rattle.std.specs.Prelude.{◌≡◌, ◌⊎◌, ◌↔◌, ◌+◌, ◌^◌, ◌≤◌, ◌<◌, ◌*◌, ◌++◌, drop, length, take, vec_capacity, IfOk, OnErr, IsTrue};
+ghost use Rattle.std.specs.Prelude.{◌≡◌, ◌⊎◌, ◌↔◌, ◌+◌, ◌^◌, ◌≤◌, ◌<◌, ◌*◌, ◌++◌, length, take, IsTrue};
 ghost use Rattle.std.specs.Bool.{OnFalse, OnTrue};
 ghost use Rattle.std.specs.Int.{w64, to_le_bytes};
 ghost use Rattle.tink_spec.specs.InPlace.{OpensTo};
 ghost use Rattle.aes_core.specs.Counter.{ctr};
 ghost use Rattle.aes_core.specs.declared.counter.CtrKind.TheVariants.{First32};
-ghost use Rattle.aead_kinds.specs.GcmSiv.{derived_half, encryption_key, first_counter, gcm_siv_open, gcm_siv_seal, gcm_siv_tag, gcm_siv_text, hashed};
+ghost use Rattle.aead_kinds.specs.GcmSiv.{derived_half, encryption_key, first_counter, gcm_siv_open, gcm_siv_seal, gcm_siv_tag, gcm_siv_text, hashed, text_of};
 
 use crate::polyval::{absorb, hash_under};
 use aes_core::blocks::{same_bytes, xor};
 use aes_core::{Aes, CtrKind};
 use std::ops::Range;
-use tink_base::NoMemory;
 
 /// The bytes of an IV.
 const IV: usize = 12;
@@ -23,31 +22,24 @@ const IV: usize = 12;
 /// The bytes of a tag.
 const TAG: usize = 16;
 
-/// Seals in place (RFC 8452, 4), and returns the same list: its first `at` bytes, unchanged, then
-/// the IV, the ciphertext and the tag.
+/// Seals in place (RFC 8452, 4): writes the IV into its room, the ciphertext over the plaintext, and
+/// the tag after it.
 ///
-/// The plaintext follows the first `at` bytes and room for the IV, whose values don't matter. It
-/// has at most 2^30 bytes, as many as its ciphertext, and so has `ad`. An IV used twice under one
-/// key reveals only whether plaintext and associated data were the same; still, each message should
-/// have its own. `NoMemory` comes only if the list's capacity has no place for the tag of 16 bytes,
-/// and memory for it can't be allocated.
-pub fn gcm_siv_seal(
-    key: &Aes,
-    at: usize,
-    mut bytes: Vec<u8>,
-    iv: &[u8; 12],
-    ad: &[u8],
-) -> Result<Vec<u8>, NoMemory>
-    requires room { at + 12 ≤ length bytes.items }
-    requires plain_bound { length bytes.items ≤ at + 12 + 2 ^ 30 }
+/// `sealed` is room for the IV, the plaintext, and room for the tag of 16 bytes; the values in the
+/// two rooms don't matter. The plaintext has at most 2^30 bytes, as many as its ciphertext, and so
+/// has `ad`. An IV used twice under one key reveals only whether plaintext and associated data were
+/// the same; still, each message should have its own. No memory is taken.
+pub fn gcm_siv_seal(key: &Aes, sealed: &mut [u8], iv: &[u8; 12], ad: &[u8])
+    requires room { 28 ≤ length sealed.old }
+    requires plain_bound { length sealed.old ≤ 2 ^ 30 + 28 }
     requires ad_bound { length ad.now ≤ 2 ^ 30 }
-    ensures sealed { IfOk result (λ v. v.items
-        ≡ take at bytes.items ++ gcm_siv_seal key.now iv.now (drop (at + 12) bytes.items) ad.now) }
-    ensures no_memory { OnErr result (vec_capacity bytes < length bytes.items + 16) }
+    ensures { sealed.new ≡ gcm_siv_seal key.now iv.now (text_of sealed.old) ad.now }
 {
-    let tag = seal_behind(key, at, &mut bytes, iv, ad);
-    bytes.extend_from_slice(&tag)?;
-    Ok(bytes)
+    let end = sealed.len() - TAG - IV;
+    let (room, rest) = sealed.split_at_mut(IV);
+    room.copy_from_slice(iv);
+    let (body, tag) = rest.split_at_mut(end);
+    tag.copy_from_slice(&seal_in_place(key, iv, ad, body));
 }
 
 /// Opens IV, ciphertext and tag, joined, in place (RFC 8452, 5), and returns the plaintext's range
@@ -70,30 +62,6 @@ pub fn gcm_siv_open(key: &Aes, bytes: &mut [u8], ad: &[u8]) -> Option<Range<usiz
     } else {
         None
     }
-}
-
-// Seals in place what follows the first `at` bytes, and returns the tag.
-fn seal_behind(key: &Aes, at: usize, bytes: &mut [u8], iv: &[u8; 12], ad: &[u8]) -> [u8; 16]
-    requires room { at + 12 ≤ length bytes.old }
-    requires bytes_bound { length bytes.old ≤ at + 12 + 2 ^ 30 }
-    requires ad_bound { length ad.now ≤ 2 ^ 30 }
-    ensures { bytes.new ++ result ≡ take at bytes.old
-        ++ gcm_siv_seal key.now iv.now (drop 12 (drop at bytes.old)) ad.now }
-{
-    seal_under_iv(key, &mut bytes[at..], iv, ad)
-}
-
-// Writes the IV into its room, encrypts in place what follows, and returns the tag (4).
-fn seal_under_iv(key: &Aes, sealed: &mut [u8], iv: &[u8; 12], ad: &[u8]) -> [u8; 16]
-    requires room { 12 ≤ length sealed.old }
-    requires sealed_bound { length sealed.old ≤ 2 ^ 31 }
-    requires ad_bound { length ad.now ≤ 2 ^ 30 }
-    ensures { sealed.new ++ result
-        ≡ gcm_siv_seal key.now iv.now (drop 12 sealed.old) ad.now }
-{
-    let (room, body) = sealed.split_at_mut(IV);
-    room.copy_from_slice(iv);
-    seal_in_place(key, iv, ad, body)
 }
 
 // Encrypts in place, and returns the tag (4).

@@ -1,8 +1,8 @@
 //! Encryption and a tag over the ciphertext, which EAX and AES-CTR-HMAC have in common.
 
-ghost use Rattle.std.specs.Prelude.{◌≡◌, ◌↔◌, ◌+◌, ◌^◌, ◌<◌, ◌≤◌, ℕ, List, ◌++◌, drop, length, take, vec_capacity, IfOk, OnErr, IsTrue};
+ghost use Rattle.std.specs.Prelude.{◌≡◌, ◌↔◌, ◌+◌, ◌^◌, ◌≤◌, ℕ, List, length, IsTrue};
 ghost use Rattle.tink_spec.specs.InPlace.{OpensTo};
-ghost use Rattle.aead_kinds.specs.EncryptThenTag.{opened_by, sealed_by};
+ghost use Rattle.aead_kinds.specs.EncryptThenTag.{opened_by, sealed_by, text_of};
 ghost use Rattle.aead_kinds.specs.SchemeState.{crypt_under, IsSound, IsUnder, start_under, tag_size_of, tag_under};
 ghost use Rattle.tink_base.specs.declared.hash.Hash.{Hash};
 
@@ -11,7 +11,6 @@ use aes_core::blocks::same_bytes;
 use aes_core::{Aes, CtrKind};
 use mac_prf::Hmac;
 use std::ops::Range;
-use tink_base::NoMemory;
 
 /// The size of the longest tag, a digest of SHA-512, in bytes.
 pub(crate) const LONGEST_TAG: usize = 64;
@@ -32,32 +31,23 @@ pub(crate) enum Scheme<'k> {
 }
 
 impl Scheme<'_> {
-    /// Seals in place, and returns the same list: its first `at` bytes, unchanged, then the IV, the
-    /// ciphertext and the tag.
-    pub(crate) fn seal(
-        &self,
-        at: usize,
-        mut bytes: Vec<u8>,
-        iv: &[u8],
-        ad: &[u8],
-    ) -> Result<Vec<u8>, NoMemory>
+    /// Seals in place: writes the IV into its room, the ciphertext over the plaintext, and the tag
+    /// after it.
+    pub(crate) fn seal(&self, sealed: &mut [u8], iv: &[u8], ad: &[u8])
         requires sound { IsSound self.now }
         requires iv_bound { length iv.now ≤ 16 }
-        requires room { at + length iv.now ≤ length bytes.items }
-        requires plain_bound { length bytes.items ≤ at + length iv.now + 2 ^ 30 }
+        requires room { length iv.now + tag_size_of self.now ≤ length sealed.old }
         requires ad_bound { length ad.now ≤ 2 ^ 30 }
-        ensures sealed { (hash : Hash) (mac : List ℕ) → IsUnder self.now hash mac
-            → IfOk result (λ v. v.items ≡ take at bytes.items
-            ++ sealed_by (crypt_under self.now) (tag_under self.now hash mac) iv.now
-            (drop (at + length iv.now) bytes.items) ad.now) }
-        ensures no_memory { OnErr result
-            (vec_capacity bytes < length bytes.items + tag_size_of self.now) }
+        ensures { (hash : Hash) (mac : List ℕ) → IsUnder self.now hash mac
+            → sealed.new ≡ sealed_by (crypt_under self.now) (tag_under self.now hash mac) iv.now
+            (text_of (length iv.now) (tag_size_of self.now) sealed.old) ad.now }
     {
-        let mut longest = [0; LONGEST_TAG];
-        let tag = &mut longest[..self.tag_size()];
-        self.seal_behind(at, &mut bytes, iv, ad, tag);
-        bytes.extend_from_slice(tag)?;
-        Ok(bytes)
+        let end = sealed.len() - self.tag_size() - iv.len();
+        let (room, rest) = sealed.split_at_mut(iv.len());
+        room.copy_from_slice(iv);
+        let (body, tag) = rest.split_at_mut(end);
+        let start = self.start(iv);
+        self.encrypt_and_tag(&start, iv, ad, body, tag);
     }
 
     /// Opens IV, ciphertext and tag, joined, in place, and returns the plaintext's range. The tag
@@ -83,39 +73,6 @@ impl Scheme<'_> {
         }
         self.crypt(&start, body);
         Some(iv_size..end)
-    }
-
-    // Seals in place what follows the first `at` bytes, and writes the tag.
-    fn seal_behind(&self, at: usize, bytes: &mut [u8], iv: &[u8], ad: &[u8], tag: &mut [u8])
-        requires sound { IsSound self.now }
-        requires iv_bound { length iv.now ≤ 16 }
-        requires room { at + length iv.now ≤ length bytes.old }
-        requires ad_bound { length ad.now ≤ 2 ^ 30 }
-        requires tag_size { length tag.old ≡ tag_size_of self.now }
-        ensures { (hash : Hash) (mac : List ℕ) → IsUnder self.now hash mac
-            → bytes.new ++ tag.new ≡ take at bytes.old
-            ++ sealed_by (crypt_under self.now) (tag_under self.now hash mac) iv.now
-            (drop (length iv.now) (drop at bytes.old)) ad.now }
-    {
-        self.seal_in_place(&mut bytes[at..], iv, ad, tag);
-    }
-
-    // Writes the IV into its room, encrypts in place what follows, and writes the tag.
-    fn seal_in_place(&self, sealed: &mut [u8], iv: &[u8], ad: &[u8], tag: &mut [u8])
-        requires sound { IsSound self.now }
-        requires iv_bound { length iv.now ≤ 16 }
-        requires room { length iv.now ≤ length sealed.old }
-        requires ad_bound { length ad.now ≤ 2 ^ 30 }
-        requires tag_size { length tag.old ≡ tag_size_of self.now }
-        ensures { (hash : Hash) (mac : List ℕ) → IsUnder self.now hash mac
-            → sealed.new ++ tag.new
-            ≡ sealed_by (crypt_under self.now) (tag_under self.now hash mac) iv.now
-            (drop (length iv.now) sealed.old) ad.now }
-    {
-        let (room, body) = sealed.split_at_mut(iv.len());
-        room.copy_from_slice(iv);
-        let start = self.start(iv);
-        self.encrypt_and_tag(&start, iv, ad, body, tag);
     }
 
     // Encrypts from the block that is handed in, and writes the tag of what was encrypted.

@@ -136,14 +136,16 @@ fn seal_anew(alloc: Global, aes: &Aes, text: &[u8]) -> u8 {
     }
 }
 
-// Seals a copy of the text, after room for the IV and with capacity for the tag.
+// Seals a copy of the text, between rooms for the IV and the tag.
 fn sealed_copy(alloc: Global, aes: &Aes, text: &[u8]) -> Result<Vec<u8>, NoMemory>
     requires { length text.now ≤ 2 ^ 30 }
 {
     let mut bytes = Vec::with_capacity(alloc, 12 + text.len() + 16)?;
     bytes.extend_from_slice(&[0; 12])?;
     bytes.extend_from_slice(text)?;
-    gcm_siv_seal(aes, 0, bytes, &[0; 12], &[])
+    bytes.extend_from_slice(&[0; 16])?;
+    gcm_siv_seal(aes, &mut bytes, &[0; 12], &[]);
+    Ok(bytes)
 }
 
 #[inline(never)]

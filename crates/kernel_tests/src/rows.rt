@@ -14,20 +14,21 @@ pub(crate) fn behind_front(alloc: Global, bytes: &[u8]) -> Result<Vec<u8>, Fail>
     Ok(all)
 }
 
-/// What stands in the room for an IV before a sealing, and isn't to show in it.
-const OTHER: [u8; 16] = [0xa5; 16];
+/// What stands in the rooms for an IV and a tag before a sealing, and isn't to show in it.
+const OTHER: [u8; 64] = [0xa5; 64];
 
-/// What is sealed in place: the bytes in front, room for an IV of at most 16 bytes, and the plaintext.
-pub(crate) fn with_room(
+/// What is sealed in place: the bytes in front, the plaintext, and room on both sides of it, of at most
+/// 64 bytes each.
+pub(crate) fn with_rooms(
     alloc: Global,
     front: &[u8],
-    room: usize,
+    before: usize,
     plain: &[u8],
+    after: usize,
 ) -> Result<Vec<u8>, Fail> {
-    let mut bytes = front.to_vec(alloc)?;
-    bytes.extend_from_slice(OTHER.get(..room).ok_or("an IV of 16 bytes at most")?)?;
-    bytes.extend_from_slice(plain)?;
-    Ok(bytes)
+    let before = OTHER.get(..before).ok_or("an IV of 64 bytes at most")?;
+    let after = OTHER.get(..after).ok_or("a tag of 64 bytes at most")?;
+    Ok([front, before, plain, after].concat(alloc)?)
 }
 
 /// The bytes with this bit turned in the byte at this place.

@@ -1,7 +1,10 @@
 //! Sealing and opening by each scheme, and what is to be the same whichever it is: a sealing is made
 //! again, and refused where it is altered.
 
-use crate::rows::{FRONT, behind_front, changed, refused, with_room};
+ghost use Rattle.std.specs.Prelude.{◌≡◌};
+ghost use Rattle.aead_kinds.specs.Aead.{tag_size_of};
+
+use crate::rows::{FRONT, behind_front, changed, refused, with_rooms};
 use aead_kinds::{AeadKey, gcm_siv_open, gcm_siv_seal, open, seal};
 use aes_core::Aes;
 use siv_daead::{SivKey, siv_open, siv_seal};
@@ -67,22 +70,42 @@ pub(crate) fn opened(
     opened_in(alloc, &list, range, bytes)
 }
 
-fn sealed_by_aead(
-    key: &AeadKey<'_>,
-    at: usize,
-    bytes: Vec<u8>,
-    iv: &[u8],
-    ad: &[u8],
-) -> Result<Vec<u8>, Fail> {
-    if !key.fits() || bytes.len() > MOST || ad.len() > MOST {
-        return Err("a key that fits, and no more than 6,000 bytes".into());
+// The bytes of a tag under the key.
+fn tag_size(key: &AeadKey<'_>) -> usize
+    ensures { result ≡ tag_size_of key.now }
+{
+    match key {
+        AeadKey::Gcm { .. } | AeadKey::Eax { .. } => 16,
+        AeadKey::CtrHmac { tag_size, .. } => *tag_size,
     }
-    if at > 5 || iv.len() != key.iv_size() || bytes.len() < at + iv.len() {
-        return Err("a prefix, and room for the IV".into());
-    }
-    Ok(seal(key, at, bytes, iv, ad)?)
 }
 
+// Whether it was sealed in place: a key that fits, rooms for IV and tag, and no more than 6,000 bytes.
+fn seals_by_aead(key: &AeadKey<'_>, bytes: &mut [u8], iv: &[u8], ad: &[u8]) -> bool {
+    let size = bytes.len();
+    if !key.fits() || size > MOST || ad.len() > MOST {
+        return false;
+    }
+    if iv.len() != key.iv_size() || size < iv.len() || size - iv.len() < tag_size(key) {
+        return false;
+    }
+    seal(key, bytes, iv, ad);
+    true
+}
+
+// Whether it was sealed in place: rooms for IV and tag, and no more than 6,000 bytes.
+fn seals_by_gcm_siv(key: &Aes, bytes: &mut [u8], iv: &[u8], ad: &[u8]) -> bool {
+    let Some(iv) = iv.first_chunk::<12>() else {
+        return false;
+    };
+    if bytes.len() < 28 || bytes.len() > MOST || ad.len() > MOST {
+        return false;
+    }
+    gcm_siv_seal(key, bytes, iv, ad);
+    true
+}
+
+// Sealed in place, in the list that is handed in.
 fn sealed_by_siv(key: &SivKey, at: usize, bytes: Vec<u8>, ad: &[u8]) -> Result<Vec<u8>, Fail> {
     if at > 5 || bytes.len() < at + 16 || bytes.len() > MOST || ad.len() > MOST {
         return Err("a prefix, room for the SIV, and no more than 6,000 bytes".into());
@@ -90,18 +113,25 @@ fn sealed_by_siv(key: &SivKey, at: usize, bytes: Vec<u8>, ad: &[u8]) -> Result<V
     Ok(siv_seal(key, at, bytes, ad))
 }
 
-fn sealed_by_gcm_siv(
-    key: &Aes,
-    at: usize,
-    bytes: Vec<u8>,
-    iv: &[u8],
-    ad: &[u8],
-) -> Result<Vec<u8>, Fail> {
-    let iv = iv.first_chunk::<12>().ok_or("an IV of 12 bytes")?;
-    if at > 5 || bytes.len() < at + 12 || bytes.len() > MOST || ad.len() > MOST {
-        return Err("a prefix, room for the IV, and no more than 6,000 bytes".into());
+// Whether what follows the first `at` bytes was sealed in place.
+fn seals_behind(key: &SealingKey<'_>, at: usize, bytes: &mut [u8], iv: &[u8], ad: &[u8]) -> bool {
+    let Some(bytes) = bytes.get_mut(at..) else {
+        return false;
+    };
+    match key {
+        SealingKey::Aead(key) => seals_by_aead(key, bytes, iv, ad),
+        SealingKey::GcmSiv(key) => seals_by_gcm_siv(key, bytes, iv, ad),
+        SealingKey::Siv(_) => false,
     }
-    Ok(gcm_siv_seal(key, at, bytes, iv, ad)?)
+}
+
+// The bytes of room behind the plaintext: none by AES-SIV, which has its SIV in front.
+fn room_behind(key: &SealingKey<'_>) -> usize {
+    match key {
+        SealingKey::Aead(key) => tag_size(key),
+        SealingKey::GcmSiv(_) => 16,
+        SealingKey::Siv(_) => 0,
+    }
 }
 
 /// Sealed in place, behind the bytes in front.
@@ -113,12 +143,14 @@ pub(crate) fn sealed(
     plain: &[u8],
     ad: &[u8],
 ) -> Result<Vec<u8>, Fail> {
-    let bytes = with_room(alloc, front, iv.len(), plain)?;
-    match key {
-        SealingKey::Aead(key) => sealed_by_aead(key, front.len(), bytes, iv, ad),
-        SealingKey::Siv(key) => sealed_by_siv(key, front.len(), bytes, ad),
-        SealingKey::GcmSiv(key) => sealed_by_gcm_siv(key, front.len(), bytes, iv, ad),
+    let mut bytes = with_rooms(alloc, front, iv.len(), plain, room_behind(key))?;
+    if let SealingKey::Siv(key) = key {
+        return sealed_by_siv(key, front.len(), bytes, ad);
     }
+    if seals_behind(key, front.len(), &mut bytes, iv, ad) {
+        return Ok(bytes);
+    }
+    Err("a key that fits, rooms for IV and tag, and no more than 6,000 bytes".into())
 }
 
 pub(crate) fn assert_refused(

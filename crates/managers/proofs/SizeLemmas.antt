@@ -28,7 +28,7 @@ use Rattle.key_msgs.specs.declared.primitive.Primitive.TheVariants.{Aead, Daead}
 use Rattle.mac_prf.proofs.HmacLemmas.{length-hmac}
 use Rattle.mac_prf.specs.Hmac.{hmac}
 use Rattle.managers.specs.Laws.{IsFor}
-use Rattle.managers.specs.Uses.{dopen_key, dseal_of, iv_size, open_key, seal_of}
+use Rattle.managers.specs.Uses.{dopen_key, dseal_of, iv_size, open_key, seal_of, sealed_size}
 use Rattle.tink_base.specs.Hash.{hash_size, hash_of_number}
 use Rattle.tink_base.specs.declared.hash.Hash.{Hash}
 use Rattle.tink_base.specs.declared.hash.Hash.TheVariants.{Sha1, Sha224, Sha256, Sha384, Sha512}
@@ -111,6 +111,11 @@ pub record SealFacts (key : KeyKind) : Type 0 where
   pub front : (iv plain ad : List ℕ) → length iv ≡ iv_size key → take (iv_size key) (seal_of key iv plain ad) ≡ iv
   -- a sealing is at most 64 bytes longer than IV and plaintext
   pub long : (iv plain ad : List ℕ) → length (seal_of key iv plain ad) ≤ length iv + length plain + 64
+  -- it has as many bytes as are said, few more than the plaintext
+  pub size : (iv plain ad : List ℕ) → IsValid key → length iv ≡ iv_size key → length (seal_of key iv plain ad) ≡ sealed_size key (length plain)
+  pub most : (n : ℕ) → IsValid key → sealed_size key n ≤ n + 96
+  -- where it has room for the plaintext, it is one of that
+  pub same : (n : ℕ) (iv p q ad : List ℕ) → (iv_size key + n ≤ sealed_size key n → p ≡ q) → seal_of key iv p ad ≡ seal_of key iv q ad
   -- of bytes it is bytes
   pub bytes : SealBytes → (iv plain ad : List ℕ) → IsValid key → Bytes (contents_of key).key → Bytes iv → Bytes plain → Bytes (seal_of key iv plain ad)
   -- what is opened is what is sealed, and no longer than its sealing
@@ -149,6 +154,9 @@ gcm_facts key = record {
   iv = λ valid. omega arith;
   front = λ iv plain ad whole. gcm-front key iv plain ad whole;
   long = λ iv plain ad. omega (arith, length-gcm_seal key iv plain ad);
+  size = λ iv plain ad valid whole. omega (arith, length-gcm_seal key iv plain ad, whole);
+  most = λ n valid. omega arith;
+  same = λ n iv p q ad is. ap (λ (plain : List ℕ). gcm_seal key iv plain ad) (is (omega arith));
   bytes = λ laws iv plain ad valid k i p. (laws.gcm key iv plain ad k i p).1;
   opens = λ laws bytes plain ad is. laws.gcm key bytes plain ad;
   short = λ bytes plain ad e. gcm-short key bytes plain ad e;
@@ -172,6 +180,9 @@ eax_facts key size = record {
   iv = λ valid. eax_iv-short key size valid;
   front = λ iv plain ad whole. eax-front key size iv plain ad whole;
   long = λ iv plain ad. omega (arith, length-eax key iv plain ad);
+  size = λ iv plain ad valid whole. omega (arith, length-eax key iv plain ad, whole);
+  most = λ n valid. omega (arith, eax_iv-short key size valid);
+  same = λ n iv p q ad is. ap (λ (plain : List ℕ). eax_seal key iv plain ad) (is (omega arith));
   bytes = λ laws iv plain ad valid k i p. (laws.eax key iv plain ad k i p).1;
   opens = λ laws bytes plain ad is. laws.eax key size bytes plain ad;
   short = λ bytes plain ad e. eax-short key size bytes plain ad e;
@@ -201,6 +212,16 @@ length-ctr_hmac aes hash mac tag_size iv plain ad =
       length-take tag_size whole,
     )
 
+-- with all bytes of its tag
+whole-ctr_hmac : (aes : List ℕ) (size : ℕ) (hash : Hash) (mac : List ℕ) (tag_size : ℕ) (iv plain ad : List ℕ)
+    → IsValid (kinds.AesCtrHmac aes size hash mac tag_size)
+    → length (ctr_hmac_seal aes hash mac tag_size iv plain ad) ≡ length iv + length plain + tag_size
+unfolding ctr_hmac_seal
+whole-ctr_hmac aes size hash mac tag_size iv plain ad valid =
+    let fits = ctr_hmac_tag-fits aes size hash mac tag_size valid in
+    length-sealed_by (ctr_hmac_text aes) (ctr_hmac_tag hash mac tag_size) tag_size iv plain ad
+    (ctr_hmac-is_scheme aes hash mac tag_size (omega (arith, fits)) fits.1)
+
 ctr_hmac-front : (aes : List ℕ) (size : ℕ) (hash : Hash) (mac : List ℕ) (tag_size : ℕ) (iv plain ad : List ℕ) → length iv ≡ size
     → take size (ctr_hmac_seal aes hash mac tag_size iv plain ad) ≡ iv
 unfolding ctr_hmac_seal sealed_by
@@ -227,6 +248,14 @@ ctr_hmac_facts aes size hash mac tag_size = record {
   iv = λ valid. ctr_hmac_iv-short aes size hash mac tag_size valid;
   front = λ iv plain ad whole. ctr_hmac-front aes size hash mac tag_size iv plain ad whole;
   long = λ iv plain ad. length-ctr_hmac aes hash mac tag_size iv plain ad;
+  size = λ iv plain ad valid whole. omega (arith, whole-ctr_hmac aes size hash mac tag_size iv plain ad valid, whole);
+  most = λ n valid. omega (
+    arith,
+    ctr_hmac_iv-short aes size hash mac tag_size valid,
+    ctr_hmac_tag-fits aes size hash mac tag_size valid,
+    digest-small hash,
+  );
+  same = λ n iv p q ad is. ap (λ (plain : List ℕ). ctr_hmac_seal aes hash mac tag_size iv plain ad) (is (omega arith));
   bytes = λ laws iv plain ad valid k i p.
       let fits = ctr_hmac_tag-fits aes size hash mac tag_size valid in
       (laws.ctr_hmac aes hash mac tag_size iv plain ad (omega (arith, fits.0)) fits.1 k i p).1;
@@ -260,6 +289,9 @@ gcm_siv_facts key = record {
   iv = λ valid. omega arith;
   front = λ iv plain ad whole. gcm_siv-front key iv plain ad whole;
   long = λ iv plain ad. omega (arith, length-gcm_siv_seal key iv plain ad);
+  size = λ iv plain ad valid whole. omega (arith, length-gcm_siv_seal key iv plain ad, whole);
+  most = λ n valid. omega arith;
+  same = λ n iv p q ad is. ap (λ (plain : List ℕ). gcm_siv_seal key iv plain ad) (is (omega arith));
   bytes = λ laws iv plain ad valid k i p. (laws.gcm_siv key iv plain ad k i p).1;
   opens = λ laws bytes plain ad is. laws.gcm_siv key bytes plain ad;
   short = λ bytes plain ad e. gcm_siv-short key bytes plain ad e;
@@ -290,11 +322,15 @@ none-opened : {P : Type 0} (o : Option (List ℕ)) (plain : List ℕ) → o ≡ 
 none-opened o plain none some = absurd cc
 
 no_seal : (key : KeyKind) → (primitive_of_type (type_of key) ≡ Aead → ⊥) → iv_size key ≡ 0
-    → ((iv plain ad : List ℕ) → seal_of key iv plain ad ≡ []) → ((bytes ad : List ℕ) → open_key key bytes ad ≡ None) → SealFacts key
-no_seal key other none empty nothing = record {
+    → ((n : ℕ) → sealed_size key n ≡ 0) → ((iv plain ad : List ℕ) → seal_of key iv plain ad ≡ [])
+    → ((bytes ad : List ℕ) → open_key key bytes ad ≡ None) → SealFacts key
+no_seal key other none no_size empty nothing = record {
   iv = λ valid. omega (arith, none);
   front = λ iv plain ad whole. ap (λ (n : ℕ). take n (seal_of key iv plain ad)) none ∙ none-there iv (whole ∙ none);
   long = λ iv plain ad. omega (arith, ap length (empty iv plain ad));
+  size = λ iv plain ad valid whole. ap length (empty iv plain ad) ∙ sym (no_size (length plain));
+  most = λ n valid. omega (arith, no_size n);
+  same = λ n iv p q ad is. empty iv p ad ∙ sym (empty iv q ad);
   bytes = λ laws iv plain ad valid k i p. subst Bytes (sym (empty iv plain ad)) (All-nil _);
   opens = λ laws bytes plain ad is. absurd (other is.0);
   short = λ bytes plain ad e. none-opened (open_key key bytes ad) plain (nothing bytes ad) e;
@@ -314,14 +350,14 @@ pub seal_facts : (key : KeyKind) → SealFacts key
 seal_facts (kinds.AesGcm key) = gcm_facts key
 seal_facts (kinds.AesEax key size) = eax_facts key size
 seal_facts (kinds.AesCtrHmac aes size hash mac tag_size) = ctr_hmac_facts aes size hash mac tag_size
-seal_facts (kinds.AesSiv key) = no_seal _ (λ e. cc) refl (λ iv plain ad. refl) (λ bytes ad. refl)
-seal_facts (kinds.Hmac key hash tag_size) = no_seal _ (λ e. cc) refl (λ iv plain ad. refl) (λ bytes ad. refl)
-seal_facts (kinds.AesCmac key tag_size) = no_seal _ (λ e. cc) refl (λ iv plain ad. refl) (λ bytes ad. refl)
-seal_facts (kinds.HkdfPrf key hash salt) = no_seal _ (λ e. cc) refl (λ iv plain ad. refl) (λ bytes ad. refl)
-seal_facts (kinds.HmacPrf key hash) = no_seal _ (λ e. cc) refl (λ iv plain ad. refl) (λ bytes ad. refl)
-seal_facts (kinds.CmacPrf key) = no_seal _ (λ e. cc) refl (λ iv plain ad. refl) (λ bytes ad. refl)
-seal_facts (kinds.GcmStream key segment derived hash) = no_seal _ (λ e. cc) refl (λ iv plain ad. refl) (λ bytes ad. refl)
-seal_facts (kinds.CtrStream key segment derived hash mac_hash tag_size) = no_seal _ (λ e. cc) refl (λ iv plain ad. refl) (λ bytes ad. refl)
+seal_facts (kinds.AesSiv key) = no_seal _ (λ e. cc) refl (λ n. refl) (λ iv plain ad. refl) (λ bytes ad. refl)
+seal_facts (kinds.Hmac key hash tag_size) = no_seal _ (λ e. cc) refl (λ n. refl) (λ iv plain ad. refl) (λ bytes ad. refl)
+seal_facts (kinds.AesCmac key tag_size) = no_seal _ (λ e. cc) refl (λ n. refl) (λ iv plain ad. refl) (λ bytes ad. refl)
+seal_facts (kinds.HkdfPrf key hash salt) = no_seal _ (λ e. cc) refl (λ n. refl) (λ iv plain ad. refl) (λ bytes ad. refl)
+seal_facts (kinds.HmacPrf key hash) = no_seal _ (λ e. cc) refl (λ n. refl) (λ iv plain ad. refl) (λ bytes ad. refl)
+seal_facts (kinds.CmacPrf key) = no_seal _ (λ e. cc) refl (λ n. refl) (λ iv plain ad. refl) (λ bytes ad. refl)
+seal_facts (kinds.GcmStream key segment derived hash) = no_seal _ (λ e. cc) refl (λ n. refl) (λ iv plain ad. refl) (λ bytes ad. refl)
+seal_facts (kinds.CtrStream key segment derived hash mac_hash tag_size) = no_seal _ (λ e. cc) refl (λ n. refl) (λ iv plain ad. refl) (λ bytes ad. refl)
 seal_facts (kinds.AesGcmSiv key) = gcm_siv_facts key
 
 pub dseal_facts : (key : KeyKind) → DsealFacts key

@@ -2,6 +2,7 @@
 -- definition. All are total: a key that isn't for that use gives the empty list, none or 0.
 --
 --   iv_size        the bytes of an IV
+--   sealed_size    the bytes of IV, ciphertext and tag
 --   seal_of        IV, ciphertext and tag, joined
 --   open_key       the plaintext of those bytes, or none where they aren't authentic
 --   dseal_of       the same two, deterministic: without an IV
@@ -11,7 +12,7 @@
 --   tagged         the message of a body, which a byte 0 may follow
 --   prf_of         as many bytes of the pseudo-random function as are asked for
 --   greatest       how many there are
-use Rattle.std.specs.Prelude.{ℕ, ◌*◌, Option, None, Bool, true, false, List, [], ◌∷◌, ◌++◌, take}
+use Rattle.std.specs.Prelude.{ℕ, ◌+◌, ◌*◌, Option, None, Bool, true, false, List, [], ◌∷◌, ◌++◌, take}
 use Rattle.aead_kinds.specs.CtrHmac.{ctr_hmac_open, ctr_hmac_seal}
 use Rattle.aead_kinds.specs.Eax.{eax_open, eax_seal}
 use Rattle.aead_kinds.specs.Gcm.{gcm_open, gcm_seal}
@@ -31,6 +32,14 @@ iv_size (kinds.AesEax key size) = size
 iv_size (kinds.AesCtrHmac aes size hash mac tag_size) = size
 iv_size (kinds.AesGcmSiv key) = 12
 iv_size _ = 0
+
+-- those of an IV, of a plaintext of that many bytes, and of a tag; none under a key of another primitive
+abbrev pub sealed_size : KeyKind → ℕ → ℕ
+sealed_size (kinds.AesGcm key) n = 12 + n + 16
+sealed_size (kinds.AesEax key size) n = size + n + 16
+sealed_size (kinds.AesCtrHmac aes size hash mac tag_size) n = size + n + tag_size
+sealed_size (kinds.AesGcmSiv key) n = 12 + n + 16
+sealed_size _ n = 0
 
 -- AES-GCM (SP 800-38D), EAX, AES-CTR-HMAC by Tink's wire format, and AES-GCM-SIV (RFC 8452), of IV,
 -- plaintext and associated data

@@ -1,11 +1,11 @@
 //! The manager of authenticated encryption: AES-GCM, EAX, AES-CTR-HMAC and AES-GCM-SIV.
 
-ghost use Rattle.std.specs.Prelude.{◌≡◌, ◌+◌, ◌^◌, ◌≤◌, ◌++◌, drop, length, string_bytes, take, IfOk};
-ghost use Rattle.aead_kinds.specs.GcmSiv.{gcm_siv_seal};
+ghost use Rattle.std.specs.Prelude.{◌≡◌, ◌+◌, ◌^◌, ◌≤◌, ℕ, drop, length, string_bytes, take};
+ghost use Rattle.aead_kinds.specs.GcmSiv.{gcm_siv_seal, text_of};
 ghost use Rattle.key_msgs.specs.KeyTypes.{url_of_type};
 ghost use Rattle.key_msgs.specs.Keys.{IsValid};
 ghost use Rattle.managers.specs.Schemes.{aead_scheme, type_under};
-ghost use Rattle.managers.specs.Uses.{iv_size, open_key, seal_of};
+ghost use Rattle.managers.specs.Uses.{iv_size, open_key, seal_of, sealed_size};
 ghost use Rattle.tink_spec.specs.InPlace.{OpensTo};
 
 use crate::reading::read_as;
@@ -15,10 +15,13 @@ use aes_core::Aes;
 use key_msgs::{KeyKind, KeyType};
 use std::alloc::Global;
 use std::ops::Range;
-use tink_base::{NoMemory, Trials};
+use tink_base::Trials;
 
 /// The size of an IV of AES-GCM and of AES-GCM-SIV, in bytes.
 const GCM_IV: usize = 12;
+
+/// The size of a tag of AES-GCM, EAX and AES-GCM-SIV, in bytes.
+const TAG: usize = 16;
 
 /// How many bytes an IV has under a key of any kind.
 fn iv_size_under(key: &KeyKind) -> usize
@@ -31,31 +34,42 @@ fn iv_size_under(key: &KeyKind) -> usize
     }
 }
 
-/// Seals in place, after the first `at` bytes, under a valid key of any kind: to no bytes if it
-/// isn't an AEAD key.
-fn seal_under(
-    key: &Prepared,
-    at: usize,
-    mut bytes: Vec<u8>,
-    iv: &[u8],
-    ad: &[u8],
-) -> Result<Vec<u8>, NoMemory>
+/// How many bytes a sealing has under a valid key of any kind.
+fn size_under(key: &Prepared, plain: usize) -> usize
     requires valid { IsValid key.now }
-    requires whole_iv { length iv.now ≡ iv_size key.now }
-    requires room { at + iv_size key.now ≤ length bytes.items }
-    requires plain_bound { length bytes.items ≤ at + iv_size key.now + 2 ^ 30 }
-    requires ad_bound { length ad.now ≤ 2 ^ 30 }
-    ensures { IfOk result (λ sealed. sealed.items ≡ take at bytes.items
-        ++ seal_of key.now iv.now (drop (at + iv_size key.now) bytes.items) ad.now) }
+    requires plain_bound { plain ≤ 2 ^ 30 }
+    ensures size { result ≡ sealed_size key.now plain }
+    ensures bound { result ≤ plain + 96 }
 {
     match key.kind() {
-        KeyKind::AesGcm { .. } => seal(&AeadKey::Gcm { key: key.gcm() }, at, bytes, iv, ad),
+        KeyKind::AesGcm { .. } | KeyKind::AesGcmSiv { .. } => GCM_IV + plain + TAG,
+        KeyKind::AesEax { iv_size, .. } => *iv_size as usize + plain + TAG,
+        KeyKind::AesCtrHmac {
+            iv_size,
+            tag_size,
+            ..
+        } => *iv_size as usize + plain + *tag_size as usize,
+        _ => 0,
+    }
+}
+
+/// Seals in place under a valid key of any kind: to no bytes if it isn't an AEAD key.
+fn seal_under(key: &Prepared, sealed: &mut [u8], iv: &[u8], ad: &[u8])
+    requires valid { IsValid key.now }
+    requires whole_iv { length iv.now ≡ iv_size key.now }
+    requires room { (n : ℕ) × (n ≤ 2 ^ 30) × (length sealed.old ≡ sealed_size key.now n) }
+    requires ad_bound { length ad.now ≤ 2 ^ 30 }
+    ensures { (n : ℕ) → length sealed.old ≡ sealed_size key.now n
+        → sealed.new ≡ seal_of key.now iv.now (take n (drop (iv_size key.now) sealed.old)) ad.now }
+{
+    match key.kind() {
+        KeyKind::AesGcm { .. } => seal(&AeadKey::Gcm { key: key.gcm() }, sealed, iv, ad),
         KeyKind::AesEax { iv_size, .. } => {
             let under = AeadKey::Eax {
                 key: key.aes(),
                 iv_size: *iv_size as usize,
             };
-            seal(&under, at, bytes, iv, ad)
+            seal(&under, sealed, iv, ad)
         }
         KeyKind::AesCtrHmac {
             iv_size,
@@ -68,33 +82,23 @@ fn seal_under(
                 mac: key.hmac(),
                 tag_size: *tag_size as usize,
             };
-            seal(&under, at, bytes, iv, ad)
+            seal(&under, sealed, iv, ad)
         }
-        KeyKind::AesGcmSiv { .. } => seal_by_gcm_siv(key.aes(), at, bytes, iv, ad),
-        _ => {
-            bytes.truncate(at);
-            Ok(bytes)
-        }
+        KeyKind::AesGcmSiv { .. } => seal_by_gcm_siv(key.aes(), sealed, iv, ad),
+        _ => {}
     }
 }
 
-/// Seals in place by AES-GCM-SIV, after the first `at` bytes.
-fn seal_by_gcm_siv(
-    key: &Aes,
-    at: usize,
-    bytes: Vec<u8>,
-    iv: &[u8],
-    ad: &[u8],
-) -> Result<Vec<u8>, NoMemory>
+/// Seals in place by AES-GCM-SIV.
+fn seal_by_gcm_siv(key: &Aes, sealed: &mut [u8], iv: &[u8], ad: &[u8])
     requires whole_iv { length iv.now ≡ 12 }
-    requires room { at + 12 ≤ length bytes.items }
-    requires plain_bound { length bytes.items ≤ at + 12 + 2 ^ 30 }
+    requires room { 28 ≤ length sealed.old }
+    requires plain_bound { length sealed.old ≤ 2 ^ 30 + 28 }
     requires ad_bound { length ad.now ≤ 2 ^ 30 }
-    ensures { IfOk result (λ sealed. sealed.items ≡ take at bytes.items
-        ++ gcm_siv_seal key.now iv.now (drop (at + 12) bytes.items) ad.now) }
+    ensures { sealed.new ≡ gcm_siv_seal key.now iv.now (text_of sealed.old) ad.now }
 {
     match iv.first_chunk::<GCM_IV>() {
-        Some(iv) => gcm_siv_seal(key, at, bytes, iv, ad),
+        Some(iv) => gcm_siv_seal(key, sealed, iv, ad),
         None => unreachable!(),
     }
 }
@@ -179,15 +183,12 @@ impl AeadManager for AeadScheme {
         iv_size_under(key.kind())
     }
 
-    fn seal(
-        &self,
-        key: &Prepared,
-        at: usize,
-        bytes: Vec<u8>,
-        iv: &[u8],
-        ad: &[u8],
-    ) -> Result<Vec<u8>, NoMemory> {
-        seal_under(key, at, bytes, iv, ad)
+    fn sealed_size(&self, key: &Prepared, plain: usize) -> usize {
+        size_under(key, plain)
+    }
+
+    fn seal(&self, key: &Prepared, sealed: &mut [u8], iv: &[u8], ad: &[u8]) {
+        seal_under(key, sealed, iv, ad);
     }
 
     fn open(
@@ -238,15 +239,12 @@ impl AeadManager for StandardAead {
         self.scheme.iv_size(key)
     }
 
-    fn seal(
-        &self,
-        key: &Prepared,
-        at: usize,
-        bytes: Vec<u8>,
-        iv: &[u8],
-        ad: &[u8],
-    ) -> Result<Vec<u8>, NoMemory> {
-        self.scheme.seal(key, at, bytes, iv, ad)
+    fn sealed_size(&self, key: &Prepared, plain: usize) -> usize {
+        self.scheme.sealed_size(key, plain)
+    }
+
+    fn seal(&self, key: &Prepared, sealed: &mut [u8], iv: &[u8], ad: &[u8]) {
+        self.scheme.seal(key, sealed, iv, ad);
     }
 
     fn open(

@@ -126,17 +126,17 @@ impl AeadManager for FoundAead<'_> {
         }
     }
 
-    fn seal(
-        &self,
-        key: &Prepared,
-        at: usize,
-        bytes: Vec<u8>,
-        iv: &[u8],
-        ad: &[u8],
-    ) -> Result<Vec<u8>, NoMemory> {
+    fn sealed_size(&self, key: &Prepared, plain: usize) -> usize {
         match self {
-            Found::Standard(own) => own.seal(key, at, bytes, iv, ad),
-            Found::Supplied(own) => (***own).seal(key, at, bytes, iv, ad),
+            Found::Standard(own) => own.sealed_size(key, plain),
+            Found::Supplied(own) => (***own).sealed_size(key, plain),
+        }
+    }
+
+    fn seal(&self, key: &Prepared, sealed: &mut [u8], iv: &[u8], ad: &[u8]) {
+        match self {
+            Found::Standard(own) => own.seal(key, sealed, iv, ad),
+            Found::Supplied(own) => (***own).seal(key, sealed, iv, ad),
         }
     }
 

@@ -10,7 +10,7 @@ ghost use Rattle.std.specs.Str.{bytes_eq};
 ghost use Rattle.tink_spec.specs.InPlace.{OpensTo};
 ghost use Rattle.tink_spec.specs.Outside.{next};
 ghost use Rattle.managers.specs.Schemes.{Scheme, key_under, IsAdmitted, IsReading};
-ghost use Rattle.managers.specs.Uses.{dopen_key, dseal_of, greatest, iv_size, open_key, prf_of, seal_of, tag_of, tagged};
+ghost use Rattle.managers.specs.Uses.{dopen_key, dseal_of, greatest, iv_size, open_key, prf_of, seal_of, sealed_size, tag_of, tagged};
 
 use crate::Prepared;
 use key_msgs::Rule;
@@ -53,27 +53,27 @@ pub trait AeadManager: KeyManager {
         requires admitted { IsAdmitted (Self.scheme self.now) key.now }
         ensures { result ≡ iv_size key.now };
 
-    /// Seals in place with `iv`, of `iv_size` bytes. `bytes` holds `at` bytes of front, which are
-    /// kept, then room for the IV, with any values, and the plaintext. The IV is written into its
-    /// room, the ciphertext over the plaintext, and the tag after it. Under a key that is no AEAD
-    /// key, the result is the first `at` bytes alone.
+    /// How many bytes IV, ciphertext and tag of a plaintext of `plain` bytes have. A key that is no
+    /// AEAD key seals to no bytes.
+    fn sealed_size(&self, key: &Prepared, plain: usize) -> usize
+        requires admitted { IsAdmitted (Self.scheme self.now) key.now }
+        requires plain_bound { plain ≤ 2 ^ 30 }
+        ensures size { result ≡ sealed_size key.now plain }
+        ensures bound { result ≤ plain + 96 };
+
+    /// Seals in place with `iv`, of `iv_size` bytes. `sealed` has as many bytes as `sealed_size`
+    /// says: room for the IV, the plaintext, and room for the tag. The IV is written into its room,
+    /// the ciphertext over the plaintext, and the tag after it. No memory is taken.
     ///
     /// No IV may be used twice under one key: the caller must ensure that.
-    fn seal(
-        &self,
-        key: &Prepared,
-        at: usize,
-        bytes: Vec<u8>,
-        iv: &[u8],
-        ad: &[u8],
-    ) -> Result<Vec<u8>, NoMemory>
+    fn seal(&self, key: &Prepared, sealed: &mut [u8], iv: &[u8], ad: &[u8])
         requires admitted { IsAdmitted (Self.scheme self.now) key.now }
         requires whole_iv { length iv.now ≡ iv_size key.now }
-        requires room { at + iv_size key.now ≤ length bytes.items }
-        requires plain_bound { length bytes.items ≤ at + iv_size key.now + 2 ^ 30 }
+        requires room { (n : ℕ) × (n ≤ 2 ^ 30) × (length sealed.old ≡ sealed_size key.now n) }
         requires ad_bound { length ad.now ≤ 2 ^ 30 }
-        ensures { IfOk result (λ sealed. sealed.items ≡ take at bytes.items
-            ++ seal_of key.now iv.now (drop (at + iv_size key.now) bytes.items) ad.now) };
+        ensures { (n : ℕ) → length sealed.old ≡ sealed_size key.now n
+            → sealed.new ≡ seal_of key.now iv.now (take n (drop (iv_size key.now) sealed.old))
+            ad.now };
 
     /// Opens IV, ciphertext and tag, joined, in place, and counts one trial. Returns the
     /// plaintext's range in `bytes`; the bytes around it are unchanged.

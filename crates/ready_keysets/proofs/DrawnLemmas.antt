@@ -15,7 +15,7 @@ use Rattle.wrapped_prims.specs.Answers.{Sealed, seal_answer, seal_behind, seal_u
 use Rattle.wrapped_prims.specs.Candidates.{prefix_bytes, prefix_of}
 use Rattle.wrapped_prims.specs.Fitness.{key_of_record}
 use Rattle.wrapped_prims.specs.Sealing.{IsSealFault, IsSealing}
-use Rattle.ready_keysets.specs.Working.{IsAnswered}
+use Rattle.ready_keysets.specs.Working.{IsAnswered, NeedsMore}
 use Rattle.ready_keysets.specs.declared.refusal.Refusal.{Refusal}
 use Rattle.wrapped_prims.specs.declared.sealing.SealFault.TheVariants as faults
 
@@ -54,3 +54,7 @@ pub answered_some : (lack : Refusal) (found : Option (List ℕ)) (bytes old new 
     → IsAnswered lack found old new result
 answered_some lack found bytes old new result is said =
     subst (λ (o : Option (List ℕ)). IsAnswered lack o old new result) (sym is) (said lack)
+
+-- what is longer than the room needs more
+pub more_needed : (found : Option (List ℕ)) (bytes : List ℕ) (room : ℕ) → found ≡ Some bytes → room < length bytes → NeedsMore found room
+more_needed found bytes room is longer = subst (λ (o : Option (List ℕ)). NeedsMore o room) (sym is) longer

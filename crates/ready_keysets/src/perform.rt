@@ -20,7 +20,7 @@ use std::alloc::Global;
 use std::mem::replace;
 use std::ops::Range;
 use tink_base::{Drawn, Trials};
-use wrapped_prims::{DeriveFault, Handle, HandleError, HeldKeys, SealFault};
+use wrapped_prims::{DeriveFault, Handle, HandleError, HeldKeys, SealIntoFault};
 
 /// The keys of a keyset, checked and prepared for a primitive, for many calls.
 pub(crate) fn hold(
@@ -86,7 +86,7 @@ fn perform_by(
     ensures kept { OnErr result (out.new ≡ out.old) }
 {
     match work {
-        Work::Seal(plain, ad, random) => seal(alloc, handle, plain, ad, random, out),
+        Work::Seal(plain, ad, random) => seal(handle, plain, ad, random, out),
         Work::Open(sealed, ad) => open(alloc, handle, sealed, ad, out),
         Work::Dseal(plain, ad) => dseal(alloc, handle, plain, ad, out),
         Work::Dopen(sealed, ad) => dopen(alloc, handle, sealed, ad, out),
@@ -124,7 +124,6 @@ fn put_found(bytes: &[u8], found: Option<Range<usize>>, out: &mut [u8]) -> Resul
 }
 
 fn seal(
-    alloc: Global,
     handle: &Handle<'_>,
     plain: &[u8],
     ad: &[u8],
@@ -140,10 +139,10 @@ fn seal(
         (seal_answer of standard_table plain.now ad.now random.now)) out.old out.new result }
     ensures kept { OnErr result (out.new ≡ out.old) }
 {
-    match handle.seal(alloc, plain, ad, &mut Drawn::new(random)) {
-        Ok(sealed) => put(&sealed, out),
-        Err(SealFault::EntropyFault) => Err(Refusal::FewRandomBytes),
-        Err(SealFault::NoMemory) => Err(Refusal::NoMemory),
+    match handle.seal_into(plain, ad, &mut Drawn::new(random), out) {
+        Ok(size) => Ok(size),
+        Err(SealIntoFault::EntropyFault) => Err(Refusal::FewRandomBytes),
+        Err(SealIntoFault::NoRoom) => Err(Refusal::NoRoom),
     }
 }
 

@@ -188,12 +188,11 @@ fn seal<E: Entropy>(
         (record w { entropy = E.state entropy.old }) result (record w { entropy = E.state entropy.new }) }
 {
     let ad = datum(alloc, ad)?;
-    seal_plain(alloc, handle, ad.as_slice(), input, entropy)
+    seal_plain(handle, ad.as_slice(), input, entropy)
 }
 
 /// A plaintext, sealed in place; it follows room for prefix and IV.
 fn seal_plain<E: Entropy>(
-    alloc: Global,
     handle: &Handle<'_>,
     ad: &[u8],
     plain: Vec<u8>,
@@ -210,7 +209,7 @@ fn seal_plain<E: Entropy>(
         (drop (seal_room handle.now.held) plain.items) ad.now)
         (record w { entropy = E.state entropy.old }) result (record w { entropy = E.state entropy.new }) }
 {
-    match handle.seal_in_place(alloc, plain, ad, entropy) {
+    match handle.seal_in_place(plain, ad, entropy) {
         Ok(sealed) => Ok(Bytes::own(sealed)),
         Err(SealFault::EntropyFault) => Err(Status::EntropyFault),
         Err(SealFault::NoMemory) => Err(Status::NoMemory),
@@ -311,7 +310,7 @@ fn reseal<E: Entropy>(
         return Err(Status::OpenFailed(Unopened::Text, sealer));
     };
     let plain = behind_room(handle.seal_room(), opened)?;
-    seal_plain(alloc, handle, ad.as_slice(), plain, entropy)
+    seal_plain(handle, ad.as_slice(), plain, entropy)
 }
 
 /// dreseal, in place: what `dopen` gives, sealed without an IV under the primary key.

@@ -2,8 +2,11 @@
 --
 --   room_of, siv_room_of      under a kept key: its prefix, and an IV; its prefix, and a SIV
 --   seal_room, dseal_room     under the primary record's key
+-- And how many it has in all.
+--
+--   kept_size                 under a kept key
 use Rattle.std.specs.Prelude.{ℕ, ◌+◌, length, option_map, unwrap_or}
-use Rattle.managers.specs.Uses.{iv_size}
+use Rattle.managers.specs.Uses.{iv_size, sealed_size}
 use Rattle.wrapped_prims.specs.Candidates.{prefix_bytes}
 use Rattle.wrapped_prims.specs.Held.{kept_in}
 use Rattle.wrapped_prims.specs.declared.held.Held.{Held}
@@ -24,3 +27,7 @@ seal_room held = unwrap_or (option_map room_of (kept_in held.slots.items held.pr
 -- the same without an IV
 abbrev pub dseal_room : Held → ℕ
 dseal_room held = unwrap_or (option_map siv_room_of (kept_in held.slots.items held.primary)) 0
+
+-- the bytes of a kept key's prefix, and those of its sealing of so many bytes
+abbrev pub kept_size : Kept → ℕ → ℕ
+kept_size kept n = length (prefix_bytes kept.prefix) + sealed_size kept.key n

@@ -9,6 +9,8 @@ use Rattle.tink_spec.specs.Outside.{EntropyState, Drew, RanShort, Stood}
 use Rattle.wrapped_prims.specs.Answers.{primary_key, seal_answer}
 use Rattle.wrapped_prims.specs.declared.sealing.SealFault.{SealFault}
 use Rattle.wrapped_prims.specs.declared.sealing.SealFault.TheVariants as faults
+use Rattle.wrapped_prims.specs.declared.sealing.SealIntoFault.{SealIntoFault}
+use Rattle.wrapped_prims.specs.declared.sealing.SealIntoFault.TheVariants as intos
 
 -- The bytes were drawn that the answer takes, and no more: whatever follows them, the answer is this
 -- one and leaves what follows.
@@ -47,3 +49,16 @@ pub record IsKeySealing (key : KeyKind) (prefix plain ad : List ℕ) (old new : 
   pub drew : Drew old new drawn
   pub whole : length drawn ≡ iv_size key
   pub made : sealed ≡ prefix ++ seal_of key drawn plain ad
+
+-- what happened where nothing was written: the entropy failed, or the sealing that was drawn for is
+-- longer than the room
+abbrev pub IsKeyIntoFault : KeyKind → (prefix plain ad : List ℕ) → (old new : EntropyState) → ℕ → SealIntoFault → Type 0
+IsKeyIntoFault key prefix plain ad old new room intos.EntropyFault = IsKeyFault key old new faults.EntropyFault
+IsKeyIntoFault key prefix plain ad old new room intos.NoRoom =
+    (sealed : List ℕ) × IsKeySealing key prefix plain ad old new sealed × (room < length sealed)
+
+-- the same of the primary record's key
+abbrev pub IsSealIntoFault : Keys → Table → (plain ad : List ℕ) → (old new : EntropyState) → ℕ → SealIntoFault → Type 0
+IsSealIntoFault keys table plain ad old new room intos.EntropyFault = IsSealFault keys table old new faults.EntropyFault
+IsSealIntoFault keys table plain ad old new room intos.NoRoom =
+    (sealed : List ℕ) × IsSealing keys table plain ad old new sealed × (room < length sealed)

@@ -18,4 +18,4 @@ pub use handle::{Handle, HandleError};
 pub use keys::HeldKeys;
 pub use making::DeriveFault;
 pub use places::Places;
-pub use sealing::SealFault;
+pub use sealing::{SealFault, SealIntoFault};

@@ -79,7 +79,7 @@ fn seal_payload<M: AeadManager, E: Entropy>(
     manager: &M,
     key: &Prepared,
     at: usize,
-    bytes: Vec<u8>,
+    mut bytes: Vec<u8>,
     ad: &[u8],
     entropy: &mut E,
 ) -> Result<Vec<u8>, EnvelopeFault>
@@ -95,10 +95,13 @@ fn seal_payload<M: AeadManager, E: Entropy>(
         (IsPayloadFault key.now (E.state entropy.old) (E.state entropy.new)) }
 {
     let iv = draw(alloc, manager.iv_size(key), entropy)?;
-    match manager.seal(key, at, bytes, &iv, ad) {
-        Ok(sealed) => Ok(sealed),
-        Err(_) => Err(EnvelopeFault::NoMemory),
+    let plain = bytes.len() - at - iv.len();
+    match bytes.resize(at + manager.sealed_size(key, plain), 0) {
+        Ok(()) => {}
+        Err(_) => return Err(EnvelopeFault::NoMemory),
     }
+    manager.seal(key, &mut bytes[at..], &iv, ad);
+    Ok(bytes)
 }
 
 /// Seals as `envelope_seal` does, under a data key that was made, whose message is short. The

@@ -1,23 +1,32 @@
--- The tag is pushed behind a list that is as long as before.
-use Rattle.std.proofs.Common.{◌≡◌, ◌++◌, ◌∙◌, List, ℕ, ap, arith, drop, length, take}
-use Rattle.std.proofs.lemmas.List.{drop-drop, take_at}
-use Rattle.aead_kinds.specs.GcmSiv.{gcm_siv_seal}
+-- What stands between the two rooms is the plaintext.
+use Rattle.std.proofs.Common.{◌≡◌, ◌-◌, ◌++◌, ◌∙◌, List, ℕ, ap, arith, drop, length, sym, take}
+use Rattle.std.proofs.lemmas.List.{append_assoc}
+use Rattle.aead_kinds.specs.GcmSiv.{gcm_siv_seal, gcm_siv_tag, gcm_siv_text, text_of}
 use Rattle.aead_kinds.proofs.gcm_siv.gcm_siv_seal.Goals as goal
 
-pub returns-clause-sealed : goal.returns-clause-sealed
-returns-clause-sealed c =
+pub returns : goal.returns
+unfolding gcm_siv_seal
+returns c =
     let key = c.args.key.now in
-    let at = c.args.at in
-    let items = c.args.bytes.items in
     let iv = c.args.iv.now in
     let ad = c.args.ad.now in
-    let new : List ℕ = c.seal_behind-tag.new.bytes in
-    let tag : List ℕ = c.seal_behind-tag.result in
-    let kept : length new ≡ length c.deref_mut.result.now = c.seal_behind-tag.auto.bytes in
-    let fits : length new ≡ c.args.bytes.len = omega (arith, kept, c.deref_mut.ensures.len) in
-    c.in_ok-extend_from_slice.ensures.items
-    ∙ ap (λ (l : List ℕ). l ++ tag) (take_at new _ _ fits)
-    ∙ c.seal_behind-tag.ensures
-    ∙ ap (λ (l : List ℕ). take at l ++ gcm_siv_seal key iv (drop 12 (drop at l)) ad)
-    c.deref_mut.ensures.value
-    ∙ ap (λ (l : List ℕ). take at items ++ gcm_siv_seal key iv l ad) (drop-drop 12 at items)
+    let bytes = c.args.sealed.now in
+    let plain : List ℕ = text_of bytes in
+    let text : List ℕ = c.seal_in_place.new.body in
+    let tag : List ℕ = c.copy_from_slice-2.new.self in
+    let made : List ℕ = c.seal_in_place.result in
+    let size : length bytes - 16 - 12 ≡ length bytes - 28 = omega arith in
+    let body : c.split_at_mut-body.result.0.now ≡ plain
+    = c.split_at_mut-body.ensures.front
+    ∙ ap (λ (l : List ℕ). take (length bytes - 16 - 12) l) c.split_at_mut-room.ensures.back
+    ∙ ap (λ n. take n (drop 12 bytes)) size in
+    let tag_is : made ≡ gcm_siv_tag key iv ad plain
+    = c.seal_in_place.ensures.tag ∙ ap (λ (l : List ℕ). gcm_siv_tag key iv ad l) body in
+    let crypted : text ≡ gcm_siv_text key iv made plain
+    = c.seal_in_place.ensures.text ∙ ap (λ (l : List ℕ). gcm_siv_text key iv made l) body in
+    let whole : List ℕ → List ℕ = λ t. iv ++ (gcm_siv_text key iv t plain ++ t) in
+    ap (λ (l : List ℕ). l ++ (text ++ tag)) c.copy_from_slice.ensures.after
+    ∙ ap (λ (t : List ℕ). iv ++ (text ++ t)) c.copy_from_slice-2.ensures.after
+    ∙ ap (λ (t : List ℕ). iv ++ (t ++ made)) crypted
+    ∙ ap whole tag_is
+    ∙ sym (append_assoc iv (gcm_siv_text key iv (gcm_siv_tag key iv ad plain) plain) (gcm_siv_tag key iv ad plain))
