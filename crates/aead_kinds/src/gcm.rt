@@ -188,17 +188,9 @@ impl GcmKey {
         if ad.len() + text.len() <= SHORT {
             return short_tag_of(&self.aes, &self.hash, iv, ad, text);
         }
-        let mut hash = self.started();
-        tag_of(&self.aes, &mut hash, iv, ad, text)
-    }
-
-    // GHASH of no block, with its powers if they are made ahead.
-    fn started(&self) -> Ghash
-        ensures { RunsUnder result self.now }
-    {
         match &self.ahead {
-            Some(hash) => **hash,
-            None => started(&self.aes, &self.hash),
+            Some(hash) => ready_tag_of(&self.aes, hash, iv, ad, text),
+            None => tag_of(&self.aes, &mut started(&self.aes, &self.hash), iv, ad, text),
         }
     }
 }
@@ -269,7 +261,7 @@ fn crypt(aes: &Aes, iv: &[u8; 12], body: &mut [u8])
     aes.ctr_xor(&counter_block(iv, 2), CtrKind::Low32, body);
 }
 
-// The tag of associated data and ciphertext.
+// The tag of associated data and ciphertext, after the powers that these pay for are made.
 fn tag_of(aes: &Aes, hash: &mut Ghash, iv: &[u8; 12], ad: &[u8], text: &[u8]) -> [u8; 16]
     requires runs { RunsUnder hash.old aes.now }
     requires ad_bound { length ad.now ≤ 2 ^ 30 }
@@ -277,11 +269,20 @@ fn tag_of(aes: &Aes, hash: &mut Ghash, iv: &[u8; 12], ad: &[u8], text: &[u8]) ->
     ensures tag { result ≡ gcm_tag aes.now iv.now ad.now text.now }
     ensures runs { RunsUnder hash.new aes.now }
 {
-    hash.restart();
-    hash.absorb(ad);
-    hash.absorb(text);
-    hash.absorb(&length_block(ad.len(), text.len()));
-    let mut tag = hash.finish().to_be_bytes();
+    hash.prepare(ad.len() + text.len());
+    ready_tag_of(aes, hash, iv, ad, text)
+}
+
+// The same by the powers that are made.
+fn ready_tag_of(aes: &Aes, hash: &Ghash, iv: &[u8; 12], ad: &[u8], text: &[u8]) -> [u8; 16]
+    requires runs { RunsUnder hash.now aes.now }
+    requires ad_bound { length ad.now ≤ 2 ^ 30 }
+    requires text_bound { length text.now ≤ 2 ^ 31 }
+    ensures { result ≡ gcm_tag aes.now iv.now ad.now text.now }
+{
+    let front = hash.absorbed(hash.absorbed(0, ad), text);
+    let hashed = hash.absorbed(front, &length_block(ad.len(), text.len()));
+    let mut tag = hashed.to_be_bytes();
     aes.ctr_xor(&counter_block(iv, 1), CtrKind::Low32, &mut tag);
     tag
 }

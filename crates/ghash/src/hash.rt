@@ -93,7 +93,7 @@ impl Ghash {
         hash
     }
 
-    /// The same with all powers made at once, to be copied for each message.
+    /// The same with all powers made at once, to be borrowed for each message (`absorbed`).
     pub fn with_powers(key: &HashKey) -> Ghash
         ensures { (h : ℕ) → IsSubkey key.now h → Holds result h [] }
     {
@@ -119,13 +119,24 @@ impl Ghash {
             → Holds self.old h blocks → Holds self.new h (blocks ++ padded_blocks body.now) }
     {
         self.prepare(body.len());
-        for piece in body.chunks(128) {
-            self.add_piece(piece);
-        }
+        self.y = self.absorbed(self.y, body);
     }
 
-    // Makes the powers that `size` more bytes pay for.
-    fn prepare(&mut self, size: usize)
+    /// GHASH after the blocks of `body`, as `HashKey::absorbed` gives it, by the powers that are
+    /// made. The blocks taken so far stay as they are.
+    pub fn absorbed(&self, so_far: u128, body: &[u8]) -> u128
+        ensures { (h : ℕ) (taken blocks : List ℕ) → Holds self.now h taken
+            → so_far ≡ ghash h blocks → result ≡ ghash h (blocks ++ padded_blocks body.now) }
+    {
+        let mut y = so_far;
+        for piece in body.chunks(128) {
+            y = self.after_piece(y, piece);
+        }
+        y
+    }
+
+    /// Makes the powers that `size` more bytes pay for.
+    pub fn prepare(&mut self, size: usize)
         ensures { (h : ℕ) (blocks : List ℕ) → Holds self.old h blocks → Holds self.new h blocks }
     {
         self.taken = self.taken.saturating_add(size);
@@ -191,54 +202,56 @@ impl Ghash {
         self.made = 8;
     }
 
-    // Adds a piece, as eight blocks at once if possible.
+    // GHASH after a piece, as eight blocks at once if possible.
     #[inline(always)]
-    fn add_piece(&mut self, piece: &[u8])
-        ensures { (h : ℕ) (blocks : List ℕ)
-            → Holds self.old h blocks → Holds self.new h (blocks ++ padded_blocks piece.now) }
+    fn after_piece(&self, y: u128, piece: &[u8]) -> u128
+        ensures { (h : ℕ) (taken blocks : List ℕ) → Holds self.now h taken
+            → y ≡ ghash h blocks → result ≡ ghash h (blocks ++ padded_blocks piece.now) }
     {
         if self.made == 8 && piece.len() == 128 {
-            self.y = self.after_eight(piece);
+            self.after_eight(y, piece)
         } else {
-            self.add_short(piece);
+            self.after_short(y, piece)
         }
     }
 
-    // Adds blocks four at a time.
-    fn add_short(&mut self, body: &[u8])
-        ensures { (h : ℕ) (blocks : List ℕ)
-            → Holds self.old h blocks → Holds self.new h (blocks ++ padded_blocks body.now) }
+    // The same with blocks four at a time.
+    fn after_short(&self, so_far: u128, body: &[u8]) -> u128
+        ensures { (h : ℕ) (taken blocks : List ℕ) → Holds self.now h taken
+            → so_far ≡ ghash h blocks → result ≡ ghash h (blocks ++ padded_blocks body.now) }
     {
+        let mut y = so_far;
         for piece in body.chunks(64) {
-            self.add_half(piece);
+            y = self.after_half(y, piece);
         }
+        y
     }
 
-    // Adds a piece, as four blocks at once if possible.
+    // GHASH after a piece, as four blocks at once if possible.
     #[inline(always)]
-    fn add_half(&mut self, piece: &[u8])
-        ensures { (h : ℕ) (blocks : List ℕ)
-            → Holds self.old h blocks → Holds self.new h (blocks ++ padded_blocks piece.now) }
+    fn after_half(&self, y: u128, piece: &[u8]) -> u128
+        ensures { (h : ℕ) (taken blocks : List ℕ) → Holds self.now h taken
+            → y ≡ ghash h blocks → result ≡ ghash h (blocks ++ padded_blocks piece.now) }
     {
         if self.made >= 4 && piece.len() == 64 {
-            self.y = self.after_four(piece);
+            self.after_four(y, piece)
         } else {
-            self.add_each(piece);
+            self.after_each(y, piece)
         }
     }
 
     // GHASH after eight more blocks: eight steps of Horner's rule at once.
     #[inline(always)]
-    fn after_eight(&self, piece: &[u8]) -> u128
+    fn after_eight(&self, y: u128, piece: &[u8]) -> u128
         requires made { 8 ≤ self.now.made }
         requires size { length piece.now ≡ 128 }
-        ensures { (h : ℕ) (blocks : List ℕ) → Holds self.now h blocks
-            → result ≡ ghash h (blocks ++ padded_blocks piece.now) }
+        ensures { (h : ℕ) (taken blocks : List ℕ) → Holds self.now h taken
+            → y ≡ ghash h blocks → result ≡ ghash h (blocks ++ padded_blocks piece.now) }
     {
         sum_of_products(
             &self.factors,
             &[
-                with_first(self.y, piece).to_array(),
+                with_first(y, piece).to_array(),
                 loaded(piece, 16).to_array(),
                 loaded(piece, 32).to_array(),
                 loaded(piece, 48).to_array(),
@@ -252,16 +265,16 @@ impl Ghash {
 
     // The same with four.
     #[inline(always)]
-    fn after_four(&self, piece: &[u8]) -> u128
+    fn after_four(&self, y: u128, piece: &[u8]) -> u128
         requires made { 4 ≤ self.now.made }
         requires size { length piece.now ≡ 64 }
-        ensures { (h : ℕ) (blocks : List ℕ) → Holds self.now h blocks
-            → result ≡ ghash h (blocks ++ padded_blocks piece.now) }
+        ensures { (h : ℕ) (taken blocks : List ℕ) → Holds self.now h taken
+            → y ≡ ghash h blocks → result ≡ ghash h (blocks ++ padded_blocks piece.now) }
     {
         sum_of_products(
             &self.factors[4..],
             &[
-                with_first(self.y, piece).to_array(),
+                with_first(y, piece).to_array(),
                 loaded(piece, 16).to_array(),
                 loaded(piece, 32).to_array(),
                 loaded(piece, 48).to_array(),
@@ -269,23 +282,16 @@ impl Ghash {
         )
     }
 
-    // Adds block by block.
-    fn add_each(&mut self, body: &[u8])
-        ensures { (h : ℕ) (blocks : List ℕ)
-            → Holds self.old h blocks → Holds self.new h (blocks ++ padded_blocks body.now) }
+    // GHASH after a piece, block by block.
+    fn after_each(&self, so_far: u128, body: &[u8]) -> u128
+        ensures { (h : ℕ) (taken blocks : List ℕ) → Holds self.now h taken
+            → so_far ≡ ghash h blocks → result ≡ ghash h (blocks ++ padded_blocks body.now) }
     {
+        let mut y = so_far;
         for piece in body.chunks(16) {
-            self.add_block(block_of(piece));
+            y = self.multiply_by_subkey(y ^ block_of(piece));
         }
-    }
-
-    // One step of Horner's rule.
-    #[inline(always)]
-    fn add_block(&mut self, block: u128)
-        ensures { (h : ℕ) (blocks : List ℕ)
-            → Holds self.old h blocks → Holds self.new h (blocks ++ block ∷ []) }
-    {
-        self.y = self.multiply_by_subkey(self.y ^ block);
+        y
     }
 
     // The product with H.

@@ -1,25 +1,10 @@
-use Rattle.std.proofs.Common.{[], ◌++◌, ap, ◌∙◌}
-use Rattle.std.specs.Int.{w128, to_be_bytes}
-use Rattle.aes_core.specs.Counter.{ctr}
-use Rattle.aes_core.specs.declared.counter.CtrKind.TheVariants.{Low32}
-use Rattle.ghash.specs.Ghash.{ghash, padded_blocks}
-use Rattle.aead_kinds.specs.Gcm.{first_counter, gcm_tag, hash_subkey, hashed}
+use Rattle.aead_kinds.specs.Gcm.{hash_subkey}
 use Rattle.aead_kinds.proofs.gcm.tag_of.Goals as goal
 
-pub returns-clause-tag : goal.returns-clause-tag
-unfolding gcm_tag hashed
-returns-clause-tag c =
-    let key = c.args.aes.now in
-    let h = hash_subkey key in
-    let runs = c.requires.runs in
-    let front = padded_blocks c.args.ad.now ++ padded_blocks c.args.text.now in
-    let empty = c.restart.ensures h runs.0 runs.1 in
-    let first = c.absorb.ensures h [] empty in
-    let both = c.absorb-2.ensures h (padded_blocks c.args.ad.now) first in
-    let all = c.absorb-3.ensures h front both in
-    let sum = c.finish.ensures h (front ++ padded_blocks c.length_block.result) all in
-    let blocks = ap (λ l. ghash h (front ++ padded_blocks l)) c.length_block.ensures in
-    c.ctr_xor.ensures
-    ∙ ap (λ start. ctr key start Low32 c.to_be_bytes-tag.result) c.counter_block.ensures
-    ∙ ap (λ text. ctr key (first_counter c.args.iv.now) Low32 text)
-    (c.to_be_bytes-tag.ensures ∙ ap (λ n. to_be_bytes w128 n) (sum ∙ blocks))
+pub ready_tag_of-requires-clause-runs : goal.ready_tag_of-requires-clause-runs
+ready_tag_of-requires-clause-runs c =
+    let runs = c.requires.runs in (runs.0, c.prepare.ensures (hash_subkey c.args.aes.now) runs.0 runs.1)
+
+pub returns-clause-runs : goal.returns-clause-runs
+returns-clause-runs c =
+    let runs = c.requires.runs in (runs.0, c.prepare.ensures (hash_subkey c.args.aes.now) runs.0 runs.1)
