@@ -4,6 +4,7 @@
 
 tools/library runs them, and compares the module with outside values besides."""
 import base64
+import concurrent.futures
 import copy
 import errno
 import hmac
@@ -13,6 +14,7 @@ import os
 import pickle
 import re
 import tempfile
+import threading
 import unittest
 
 import tinkey
@@ -163,6 +165,32 @@ class Sizes(unittest.TestCase):
             self.assertRaises(ValueError, keys.compute, b"data", -1)
             for wrong in ("16", b"16", None, 16.5):
                 self.assertRaises(TypeError, keys.compute, b"data", wrong)
+
+    def test_a_handle_is_closed_while_calls_are_under_way(self):
+        for text in (bytes(16), bytes(1 << 20)):
+            keys = tinkey.Aead.from_json(keyset(key("AesGcmKey")))
+            begun = threading.Semaphore(0)
+
+            def turns(keys=keys, begun=begun, text=text):
+                """Seals until the handle is closed; whether each of its answers opens to the text."""
+                sealed = []
+                try:
+                    while True:
+                        sealed = [*sealed[-9:], keys.encrypt(text)]
+                        begun.release()
+                except ValueError:
+                    with tinkey.Aead.from_json(keyset(key("AesGcmKey"))) as again:
+                        return sealed and all(again.decrypt(it) == text for it in sealed)
+
+            with concurrent.futures.ThreadPoolExecutor(4) as pool:
+                ended = [pool.submit(turns) for _ in range(4)]
+                for _ in range(40):
+                    begun.acquire()
+                keys.close()
+                self.assertTrue(all(it.result() for it in ended))
+            # no call is under way, so the keys were let go
+            self.assertEqual((keys._last, keys._made, keys._spare), (None, 0, []))  # pylint: disable=protected-access
+            keys.close()
 
     def test_a_closed_handle_does_nothing(self):
         for kind, name, calls in ((tinkey.Aead, "AesGcmKey", ("encrypt", "decrypt")),

@@ -16,7 +16,7 @@ import ctypes
 import errno
 import os
 import threading
-from typing import Any, BinaryIO, Optional, Sequence, Type, TypeVar, Union
+from typing import Any, BinaryIO, Callable, List, Optional, Sequence, Type, TypeVar, Union
 
 Buffer = Union[bytes, bytearray, memoryview]
 Text = Union[str, Buffer]
@@ -178,8 +178,8 @@ def _sized(size: int) -> Any:
     return _SIZES[size] if size < _FEW else _size(size)
 
 
-# An answer of at most so many bytes is written into memory that its handle keeps; and a call that adds to its input
-# adds less than half of that.
+# An answer of at most so many bytes is written into memory that its handle keeps for its calls; and a call that adds to
+# its input adds less than half of that.
 _SHORT = 4096
 _SHORT_ROOM = _size.from_param(_SHORT)
 
@@ -229,10 +229,51 @@ class _Handle(_Owned):
     """The keys of a keyset for one primitive."""
 
     def __init__(self, new: str, types: Sequence[Any], words: Sequence[Any]) -> None:
+        # What a call works with: where the keys are, memory for an answer, and its size. A call takes one of these and
+        # puts it back, so that no two calls work with the same one. A list gives and takes an item as one step.
+        self._spare: List[Any] = []
+        self._made, self._last = 0, None
         super().__init__(new, types, words)
-        # what each call needs, and only the one that holds the lock uses
-        self._made_size, self._out = _size(), ctypes.create_string_buffer(_SHORT)
-        self._made_at = ctypes.byref(self._made_size)
+        self._spare.append(self._new())
+
+    def _new(self) -> Any:
+        """One more of what a call works with, for a call that finds none: another one is under way."""
+        with self._lock:
+            if not self._at:
+                raise ValueError("the handle is closed")
+            self._made += 1
+            size = _size()
+            return self._at, ctypes.create_string_buffer(_SHORT), size, ctypes.byref(size)
+
+    def close(self) -> None:
+        """Lets the keys go, as soon as no call is under way. What is closed may be closed again."""
+        with self._lock:
+            if self._at:
+                self._last, self._at = self._at, None
+        self._let_go()
+
+    def _let_go(self) -> None:
+        """Lets the keys of a closed handle go, if no call is under way."""
+        with self._lock:
+            while self._spare:
+                self._spare.pop()
+                self._made -= 1
+            if self._last and not self._made:
+                _function(f"tinkey_{self._name}_free", _pointer, gives=None)(self._last)
+                self._last = None
+
+    def _with(self, call: Callable[..., Any]) -> Any:
+        """What a call gives that is handed what it works with."""
+        try:
+            mine = self._spare.pop()
+        except IndexError:
+            mine = self._new()
+        try:
+            return call(*mine)
+        finally:
+            self._spare.append(mine)
+            if not self._at:
+                self._let_go()
 
     @classmethod
     def from_json(cls: Type[Self], text: Text) -> Self:
@@ -260,25 +301,31 @@ class _Handle(_Owned):
         text, key = bytes_of(encrypted), master_bytes_of(master)
         return cls("new_wrapped", _TEXT + _TEXT, (text, len(text), number, key, len(key), master_number))
 
-    def _made(self, function: Any, room_of: Any, first: Buffer, second: Buffer) -> bytes:
+    def _answer(self, function: Any, room_of: Any, first: Buffer, second: Buffer) -> bytes:
         """What a function writes from two inputs, into an output with at least the room that the first one asks for."""
         # here and below no function is called for what takes less time than a call
         data = first if isinstance(first, bytes) else _bytes(first)
         more = second if isinstance(second, bytes) else _bytes(second)
         size, more_size = len(data), len(more)
-        out, room = self._out, _SHORT_ROOM
-        if 2 * size > _SHORT:
-            most = room_of(size)
-            if most > _SHORT:
-                out, room = ctypes.create_string_buffer(most), _size(most)
-        with self._lock:
-            if not self._at:
-                raise ValueError("the handle is closed")
-            status = function(self._at, data, _SIZES[size] if size < _FEW else _size(size),
-                              more, _SIZES[more_size] if more_size < _FEW else _size(more_size),
-                              out, room, self._made_at)
+        try:
+            mine = self._spare.pop()
+        except IndexError:
+            mine = self._new()
+        try:
+            at, out, made, made_at = mine
+            room = _SHORT_ROOM
+            if 2 * size > _SHORT:
+                most = room_of(size)
+                if most > _SHORT:
+                    out, room = ctypes.create_string_buffer(most), _size(most)
+            status = function(at, data, _SIZES[size] if size < _FEW else _size(size),
+                              more, _SIZES[more_size] if more_size < _FEW else _size(more_size), out, room, made_at)
             if not status:
-                return out[:self._made_size.value]
+                return out[:made.value]
+        finally:
+            self._spare.append(mine)
+            if not self._at:
+                self._let_go()
         raise _ERRORS.get(status, TinkeyError)()
 
 
@@ -298,11 +345,11 @@ class Aead(_Handle):
 
     def encrypt(self, plaintext: Buffer, associated_data: Buffer = b"") -> bytes:
         """Seals under the primary key, with a fresh IV of the system's random bytes."""
-        return self._made(_aead_seal, _aead_seal_room, plaintext, associated_data)
+        return self._answer(_aead_seal, _aead_seal_room, plaintext, associated_data)
 
     def decrypt(self, ciphertext: Buffer, associated_data: Buffer = b"") -> bytes:
         """Opens what an ENABLED key of the keyset sealed, or raises `Refused`."""
-        return self._made(_aead_open, _aead_open_room, ciphertext, associated_data)
+        return self._answer(_aead_open, _aead_open_room, ciphertext, associated_data)
 
 
 class DeterministicAead(_Handle):
@@ -312,11 +359,11 @@ class DeterministicAead(_Handle):
 
     def encrypt_deterministically(self, plaintext: Buffer, associated_data: Buffer = b"") -> bytes:
         """Seals under the primary key."""
-        return self._made(_daead_seal, _daead_seal_room, plaintext, associated_data)
+        return self._answer(_daead_seal, _daead_seal_room, plaintext, associated_data)
 
     def decrypt_deterministically(self, ciphertext: Buffer, associated_data: Buffer = b"") -> bytes:
         """Opens what an ENABLED key of the keyset sealed, or raises `Refused`."""
-        return self._made(_daead_open, _daead_open_room, ciphertext, associated_data)
+        return self._answer(_daead_open, _daead_open_room, ciphertext, associated_data)
 
 
 class Mac(_Handle):
@@ -327,18 +374,17 @@ class Mac(_Handle):
     def compute_mac(self, data: Buffer) -> bytes:
         """The tag under the primary key, behind its output prefix."""
         body = _bytes(data)
-        with self._lock:
-            if not self._at:
-                raise ValueError("the handle is closed")
-            status = _mac_tag(self._at, body, _sized(len(body)), self._out, _SHORT_ROOM, self._made_at)
-            if not status:
-                return self._out[:self._made_size.value]
-        raise _ERRORS.get(status, TinkeyError)()
+
+        def tag(at: Any, out: Any, made: Any, made_at: Any) -> bytes:
+            _check(_mac_tag(at, body, _sized(len(body)), out, _SHORT_ROOM, made_at))
+            return out[:made.value]
+
+        return self._with(tag)
 
     def verify_mac(self, mac: Buffer, data: Buffer) -> None:
         """Raises `Refused` where the tag isn't the data's under any ENABLED key."""
         tag, body = _bytes(mac), _bytes(data)
-        _check(self._call(_mac_verify, tag, _sized(len(tag)), body, _sized(len(body))))
+        self._with(lambda at, *_: _check(_mac_verify(at, tag, _sized(len(tag)), body, _sized(len(body)))))
 
 
 class Prf(_Handle):
@@ -348,16 +394,15 @@ class Prf(_Handle):
 
     def compute(self, data: Buffer, output_length: int) -> bytes:
         """So many bytes from the data under the primary key, or raises `TooLong`."""
-        given, out = _bytes(data), self._out
-        if not 0 <= output_length <= _SHORT:
-            out = ctypes.create_string_buffer(output_length)
-        with self._lock:
-            if not self._at:
-                raise ValueError("the handle is closed")
-            status = _prf_derive(self._at, given, _sized(len(given)), out, _sized(output_length))
-            if not status:
-                return out[:output_length]
-        raise _ERRORS.get(status, TinkeyError)()
+        given = _bytes(data)
+
+        def derive(at: Any, out: Any, *_: Any) -> bytes:
+            if not 0 <= output_length <= _SHORT:
+                out = ctypes.create_string_buffer(output_length)
+            _check(_prf_derive(at, given, _sized(len(given)), out, _sized(output_length)))
+            return out[:output_length]
+
+        return self._with(derive)
 
 
 _sealing_update = _function("tinkey_sealing_update", _pointer, *_INPUT, *_OUTPUT)
