@@ -10,7 +10,8 @@
  * and the C library. What a caller owes is said below, and can't be tested here.
  *
  * What a caller owes. A handle is one that a `new` call gave and that `free` wasn't called with, and no other call runs
- * on it while `free` does. A pointer and a length name memory that is the caller's for the length of the call.
+ * on it while `free` does. A pointer and a length name memory that is the caller's for the length of the call. The
+ * handler of a signal makes no call, and the functions that a pass over a stream calls return to it.
  *
  * Handles. Calls on one handle may come from any thread; they run one at a time, so give each busy thread a handle of
  * its own. Random bytes are drawn from the system for each call and never kept, so that a process and its forked child
@@ -18,8 +19,9 @@
  *
  * Outputs. `out` has room for `out_room` bytes, and `*out_len` says how many were written. If the status isn't
  * TINKEY_OK, `out`, `*out_len` and `*handle` are as they were. The whole room of `out`, however much of it is written,
- * may overlap neither an input nor `*out_len`, and `*out_len` no input. `errno` is kept. While tinkey_aead_seal runs, the
- * plaintext stands in `out` until the ciphertext replaces it, so nobody else should read that memory meanwhile.
+ * may overlap neither an input nor `*out_len`, and `*out_len` no input. `errno` is kept, but for what the functions of a
+ * pass do with it. While tinkey_aead_seal runs, the plaintext stands in `out` until the ciphertext replaces it, so nobody
+ * else should read that memory meanwhile.
  *
  * Lengths. A pointer may be NULL where its length or room is 0. A length or room is at most PTRDIFF_MAX. Of an input
  * that a call takes whole, 2^30 bytes are the most; a stream has no such limit: neither its pieces, nor its associated

@@ -16,6 +16,7 @@ import re
 import tempfile
 import threading
 import unittest
+import warnings
 
 import tinkey
 
@@ -166,6 +167,66 @@ class Sizes(unittest.TestCase):
             for wrong in ("16", b"16", None, 16.5):
                 self.assertRaises(TypeError, keys.compute, b"data", wrong)
 
+    def test_an_error_can_be_copied_and_pickled(self):
+        for kind in tinkey.TinkeyError.__subclasses__():
+            for other in (copy.copy(kind()), pickle.loads(pickle.dumps(kind()))):
+                self.assertIs(type(other), kind)
+                self.assertEqual((str(other), other.status), (str(kind()), kind.status))
+        self.assertIsInstance(tinkey.NoMemory(), MemoryError)
+
+    def test_derived_bytes_have_a_length(self):
+        with tinkey.Prf.from_json(keyset(key("HkdfPrfKey"))) as keys:
+            for error, length in ((ValueError, -1), (TypeError, 1.0), (TypeError, None), (tinkey.TooLong, 8161),
+                                  (tinkey.TooLong, 16321), (tinkey.TooLong, 1 << 63)):
+                with self.assertRaises(error):
+                    keys.compute(b"data", length)
+
+    def test_a_stream_whose_answer_was_lost_is_over(self):
+        with tinkey.Streaming.from_json(keyset(key("AesGcmHkdfStreamingKey"))) as keys:
+            for stream in (keys.sealing(), keys.opening()):
+                given = stream._given  # pylint: disable=protected-access
+
+                def lost(*words, given=given):
+                    given(*words)
+                    raise KeyboardInterrupt
+
+                stream._given = lost  # pylint: disable=protected-access
+                with self.assertRaises(KeyboardInterrupt):
+                    stream.update(bytes(100))
+                stream._given = given  # pylint: disable=protected-access
+                for call in (lambda it=stream: it.update(b""), stream.finish):
+                    with self.assertRaises(tinkey.Ended):
+                        call()
+                stream.close()
+
+    def test_what_interrupts_a_call_may_close_its_stream(self):
+        with tinkey.Streaming.from_json(keyset(key("AesGcmHkdfStreamingKey"))) as keys:
+            stream = keys.sealing()
+            given = stream._given  # pylint: disable=protected-access
+
+            def closing(*words):
+                stream.close()
+                with self.assertRaises(tinkey.Ended):
+                    stream.finish()
+                return given(*words)
+
+            stream._given = closing  # pylint: disable=protected-access
+            self.assertEqual(len(stream.update(bytes(100))), 24)
+            with self.assertRaises(ValueError):
+                stream.update(b"")
+
+    def test_a_sealing_that_is_left_unfinished_warns(self):
+        with tinkey.Streaming.from_json(keyset(key("AesGcmHkdfStreamingKey"))) as keys:
+            with self.assertWarns(RuntimeWarning):
+                with keys.sealing() as stream:
+                    stream.update(b"text")
+            with warnings.catch_warnings():
+                warnings.simplefilter("error")
+                with self.assertRaises(KeyError), keys.sealing() as stream:
+                    raise KeyError
+                with keys.sealing() as stream:
+                    stream.finish()
+
     def test_a_handle_is_closed_while_calls_are_under_way(self):
         for text in (bytes(16), bytes(1 << 20)):
             keys = tinkey.Aead.from_json(keyset(key("AesGcmKey")))
@@ -189,7 +250,8 @@ class Sizes(unittest.TestCase):
                 keys.close()
                 self.assertTrue(all(it.result() for it in ended))
             # no call is under way, so the keys were let go
-            self.assertEqual((keys._last, keys._made, keys._spare), (None, 0, []))  # pylint: disable=protected-access
+            self.assertEqual((keys._ends, keys._spare), ([], []))  # pylint: disable=protected-access
+            self.assertEqual(len(keys._gone), len(keys._all))  # pylint: disable=protected-access
             keys.close()
 
     def test_a_closed_handle_does_nothing(self):

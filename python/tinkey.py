@@ -14,8 +14,10 @@ child of a process with threads makes its own handles.
 """
 import ctypes
 import errno
+import operator
 import os
 import threading
+import warnings
 from typing import Any, BinaryIO, Callable, List, Optional, Sequence, Type, TypeVar, Union
 
 Buffer = Union[bytes, bytearray, memoryview]
@@ -23,7 +25,10 @@ Text = Union[str, Buffer]
 Own = TypeVar("Own", bound="_Owned")
 Self = TypeVar("Self", bound="_Handle")
 
-_library = ctypes.CDLL(os.environ.get("TINKEY_LIBRARY", "libtinkey.so.0"))
+try:
+    _library = ctypes.CDLL(os.environ.get("TINKEY_LIBRARY") or "libtinkey.so.0")
+except OSError as _fault:
+    raise ImportError(f"{_fault}; the environment variable TINKEY_LIBRARY gives the path of the library") from _fault
 _size, _pointer = ctypes.c_size_t, ctypes.c_void_p
 _library.tinkey_status_text.restype = ctypes.c_char_p
 _library.tinkey_status_text.argtypes = [ctypes.c_int]
@@ -36,6 +41,10 @@ class TinkeyError(Exception):
 
     def __init__(self) -> None:
         super().__init__(_library.tinkey_status_text(self.status).decode("ascii"))
+
+    def __reduce__(self) -> Any:
+        """So that it can be copied and pickled, as when it comes from another process."""
+        return type(self), ()
 
 
 class Refused(TinkeyError):
@@ -81,7 +90,7 @@ class NoRandom(TinkeyError):
     status = 7
 
 
-class NoMemory(TinkeyError):
+class NoMemory(TinkeyError, MemoryError):
     """Memory was refused."""
 
     status = 8
@@ -182,6 +191,8 @@ def _sized(size: int) -> Any:
 # its input adds less than half of that.
 _SHORT = 4096
 _SHORT_ROOM = _size.from_param(_SHORT)
+# The most bytes that any key derives: 255 digests of SHA-512, by HKDF (RFC 5869, 2.3).
+_MOST_DERIVED = 255 * 64
 
 
 class _Owned:
@@ -191,7 +202,8 @@ class _Owned:
 
     def __init__(self, new: str, types: Sequence[Any], words: Sequence[Any]) -> None:
         self._at: Any = None
-        self._lock = threading.Lock()
+        # the handler of a signal may call what it interrupts
+        self._lock = threading.RLock()
         made = _pointer()
         function = _function(f"tinkey_{self._name}_{new}", *types, ctypes.POINTER(_pointer))
         _check(function(*words, ctypes.byref(made)))
@@ -218,12 +230,6 @@ class _Owned:
         if getattr(self, "_at", None):
             self.close()
 
-    def _call(self, function: Any, *arguments: Any) -> Any:
-        with self._lock:
-            if not self._at:
-                raise ValueError("the handle is closed")
-            return function(self._at, *arguments)
-
 
 class _Handle(_Owned):
     """The keys of a keyset for one primitive."""
@@ -232,7 +238,10 @@ class _Handle(_Owned):
         # What a call works with: where the keys are, memory for an answer, and its size. A call takes one of these and
         # puts it back, so that no two calls work with the same one. A list gives and takes an item as one step.
         self._spare: List[Any] = []
-        self._made, self._last = 0, None
+        # all that were made, those that no call takes any more, and where the keys of a closed handle are
+        self._all: List[Any] = []
+        self._gone: List[Any] = []
+        self._ends: List[Any] = []
         super().__init__(new, types, words)
         self._spare.append(self._new())
 
@@ -241,26 +250,25 @@ class _Handle(_Owned):
         with self._lock:
             if not self._at:
                 raise ValueError("the handle is closed")
-            self._made += 1
             size = _size()
-            return self._at, ctypes.create_string_buffer(_SHORT), size, ctypes.byref(size)
+            self._all.append((self._at, ctypes.create_string_buffer(_SHORT), size, ctypes.byref(size)))
+            return self._all[-1]
 
     def close(self) -> None:
         """Lets the keys go, as soon as no call is under way. What is closed may be closed again."""
         with self._lock:
-            if self._at:
-                self._last, self._at = self._at, None
+            at, self._at = self._at, None
+            if at:
+                self._ends.append(at)
         self._let_go()
 
     def _let_go(self) -> None:
         """Lets the keys of a closed handle go, if no call is under way."""
         with self._lock:
             while self._spare:
-                self._spare.pop()
-                self._made -= 1
-            if self._last and not self._made:
-                _function(f"tinkey_{self._name}_free", _pointer, gives=None)(self._last)
-                self._last = None
+                self._gone.append(self._spare.pop())
+            if self._ends and len(self._gone) == len(self._all):
+                _function(f"tinkey_{self._name}_free", _pointer, gives=None)(self._ends.pop())
 
     def _with(self, call: Callable[..., Any]) -> Any:
         """What a call gives that is handed what it works with."""
@@ -394,13 +402,17 @@ class Prf(_Handle):
 
     def compute(self, data: Buffer, output_length: int) -> bytes:
         """So many bytes from the data under the primary key, or raises `TooLong`."""
-        given = _bytes(data)
+        given, length = _bytes(data), operator.index(output_length)
+        if length < 0:
+            raise ValueError("a length is 0 or more")
+        if length > _MOST_DERIVED:
+            raise TooLong()
 
         def derive(at: Any, out: Any, *_: Any) -> bytes:
-            if not 0 <= output_length <= _SHORT:
-                out = ctypes.create_string_buffer(output_length)
-            _check(_prf_derive(at, given, _sized(len(given)), out, _sized(output_length)))
-            return out[:output_length]
+            if length > _SHORT:
+                out = ctypes.create_string_buffer(length)
+            _check(_prf_derive(at, given, _sized(len(given)), out, _sized(length)))
+            return out[:length]
 
         return self._with(derive)
 
@@ -421,6 +433,40 @@ class _Stream(_Owned):
     _finish: Any
     _waiting: Any
 
+    def __init__(self, new: str, types: Sequence[Any], words: Sequence[Any]) -> None:
+        # whether a call has begun and hasn't given its answer, whether one runs, whether it is to close the stream
+        # when it ends, and whether the input was ended
+        self._unanswered = self._runs = self._closes = self._ended = False
+        super().__init__(new, types, words)
+
+    def close(self) -> None:
+        """Lets it go; within a call of it, as the handler of a signal may be, when that has ended."""
+        with self._lock:
+            if self._runs:
+                self._closes = True
+            else:
+                super().close()
+
+    def _step(self, function: Any, data: bytes, none: Sequence[Any], *inputs: Any) -> bytes:
+        """One call. If it is left by anything but an answer of the library, the stream is over: what it gave is lost."""
+        with self._lock:
+            if not self._at:
+                raise ValueError("the stream is closed")
+            if self._unanswered:
+                raise Ended()
+            self._unanswered = self._runs = True
+            try:
+                made = self._given(self._at, function, data, none, *inputs)
+                self._unanswered = False
+                return made
+            except TinkeyError:
+                self._unanswered = False
+                raise
+            finally:
+                self._runs = False
+                if self._closes:
+                    super().close()
+
     def _given(self, at: int, function: Any, data: bytes, none: Sequence[Any], *inputs: Any) -> bytes:
         """What a call gives. Where there was too little room the input was taken, and what waits is asked for."""
         room, size = len(data) + _MORE, _size()
@@ -439,15 +485,22 @@ class _Stream(_Owned):
         A segment is given once a byte follows it, and the last one by `finish` alone.
         """
         given = _bytes(data)
-        return self._call(self._given, self._update, given, (b"", 0), given, len(given))
+        return self._step(self._update, given, (b"", 0), given, len(given))
 
     def finish(self) -> bytes:
         """Ends the input, and gives the rest."""
-        return self._call(self._given, self._finish, b"", ())
+        made = self._step(self._finish, b"", ())
+        self._ended = True
+        return made
 
 
 class Sealing(_Stream):
     """A stream that is being sealed. What its calls give, one after another, is the stream."""
+
+    def __exit__(self, kind: Any = None, *_: Any) -> None:
+        if kind is None and not self._ended:
+            warnings.warn("a sealing was closed before `finish`, so its stream isn't whole", RuntimeWarning, stacklevel=2)
+        self.close()
 
     _name = "sealing"
     _update = staticmethod(_sealing_update)
@@ -506,12 +559,12 @@ class Streaming(_Handle):
     def sealing(self, associated_data: Buffer = b"") -> Sealing:
         """Begins to seal a stream under the primary key, with fresh random bytes."""
         data = _bytes(associated_data)
-        return self._call(lambda at: Sealing("new", (_pointer, *_INPUT), (at, data, len(data))))
+        return self._with(lambda at, *_: Sealing("new", (_pointer, *_INPUT), (at, data, len(data))))
 
     def opening(self, associated_data: Buffer = b"") -> Opening:
         """Begins to open a stream under the first ENABLED key that opens its first segment."""
         data = _bytes(associated_data)
-        return self._call(lambda at: Opening("new", (_pointer, *_INPUT), (at, data, len(data))))
+        return self._with(lambda at, *_: Opening("new", (_pointer, *_INPUT), (at, data, len(data))))
 
     def encrypt_file(self, source: BinaryIO, destination: BinaryIO, associated_data: Buffer = b"") -> None:
         """Seals what one binary file has left, and writes the stream to another.
