@@ -186,12 +186,13 @@ class Sizes(unittest.TestCase):
             for stream in (keys.sealing(), keys.opening()):
                 given = stream._given  # pylint: disable=protected-access
 
+                # an error of the module too, as a handler may raise one
                 def lost(*words, given=given):
                     given(*words)
-                    raise KeyboardInterrupt
+                    raise tinkey.Refused
 
                 stream._given = lost  # pylint: disable=protected-access
-                with self.assertRaises(KeyboardInterrupt):
+                with self.assertRaises(tinkey.Refused):
                     stream.update(bytes(100))
                 stream._given = given  # pylint: disable=protected-access
                 for call in (lambda it=stream: it.update(b""), stream.finish):

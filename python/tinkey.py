@@ -18,7 +18,7 @@ import operator
 import os
 import threading
 import warnings
-from typing import Any, BinaryIO, Callable, List, Optional, Sequence, Type, TypeVar, Union
+from typing import Any, BinaryIO, Callable, List, Optional, Sequence, Tuple, Type, TypeVar, Union
 
 Buffer = Union[bytes, bytearray, memoryview]
 Text = Union[str, Buffer]
@@ -251,8 +251,9 @@ class _Handle(_Owned):
             if not self._at:
                 raise ValueError("the handle is closed")
             size = _size()
-            self._all.append((self._at, ctypes.create_string_buffer(_SHORT), size, ctypes.byref(size)))
-            return self._all[-1]
+            mine = self._at, ctypes.create_string_buffer(_SHORT), size, ctypes.byref(size)
+            self._all.append(mine)
+            return mine
 
     def close(self) -> None:
         """Lets the keys go, as soon as no call is under way. What is closed may be closed again."""
@@ -434,9 +435,9 @@ class _Stream(_Owned):
     _waiting: Any
 
     def __init__(self, new: str, types: Sequence[Any], words: Sequence[Any]) -> None:
-        # whether a call has begun and hasn't given its answer, whether one runs, whether it is to close the stream
-        # when it ends, and whether the input was ended
-        self._unanswered = self._runs = self._closes = self._ended = False
+        # whether what a call gave was lost, whether a call runs, whether it is to close the stream when it ends, and
+        # whether the input was ended
+        self._lost = self._runs = self._closes = self._ended = False
         super().__init__(new, types, words)
 
     def close(self) -> None:
@@ -448,27 +449,32 @@ class _Stream(_Owned):
                 super().close()
 
     def _step(self, function: Any, data: bytes, none: Sequence[Any], *inputs: Any) -> bytes:
-        """One call. If it is left by anything but an answer of the library, the stream is over: what it gave is lost."""
-        with self._lock:
-            if not self._at:
-                raise ValueError("the stream is closed")
-            if self._unanswered:
-                raise Ended()
-            self._unanswered = self._runs = True
-            try:
-                made = self._given(self._at, function, data, none, *inputs)
-                self._unanswered = False
-                return made
-            except TinkeyError:
-                self._unanswered = False
-                raise
-            finally:
-                self._runs = False
-                if self._closes:
-                    super().close()
+        """One call. If anything but an answer of the library leaves it, the stream is over: what it gave is lost."""
+        lost = False
+        try:
+            with self._lock:
+                if not self._at:
+                    raise ValueError("the stream is closed")
+                if self._lost or self._runs:
+                    raise Ended()
+                lost = self._runs = True
+                try:
+                    status, made = self._given(self._at, function, data, none, *inputs)
+                finally:
+                    self._runs = False
+                    if self._closes:
+                        super().close()
+            lost = False
+        finally:
+            if lost:
+                self._lost = True
+        # from here on no function is called before an answer is given, so that no signal's handler comes between
+        if status:
+            raise _ERRORS.get(status, TinkeyError)()
+        return made
 
-    def _given(self, at: int, function: Any, data: bytes, none: Sequence[Any], *inputs: Any) -> bytes:
-        """What a call gives. Where there was too little room the input was taken, and what waits is asked for."""
+    def _given(self, at: int, function: Any, data: bytes, none: Sequence[Any], *inputs: Any) -> Tuple[int, bytes]:
+        """The status of a call, and what it gives, which is asked for again where there was too little room."""
         room, size = len(data) + _MORE, _size()
         out = ctypes.create_string_buffer(room)
         status = function(at, *inputs, out, room, ctypes.byref(size))
@@ -476,8 +482,7 @@ class _Stream(_Owned):
             room = self._waiting(at)
             out = ctypes.create_string_buffer(room)
             status = function(at, *none, out, room, ctypes.byref(size))
-        _check(status)
-        return out[:size.value]
+        return status, out[:size.value]
 
     def update(self, data: Buffer) -> bytes:
         """Takes the next bytes, any number of them, and gives what they settle, which may be nothing.
@@ -499,7 +504,8 @@ class Sealing(_Stream):
 
     def __exit__(self, kind: Any = None, *_: Any) -> None:
         if kind is None and not self._ended:
-            warnings.warn("a sealing was closed before `finish`, so its stream isn't whole", RuntimeWarning, stacklevel=2)
+            text = "a sealing was closed before `finish`, so its stream isn't whole"
+            warnings.warn(text, RuntimeWarning, stacklevel=2)
         self.close()
 
     _name = "sealing"
