@@ -4,7 +4,7 @@
 ghost use Rattle.std.specs.Prelude.{◌≤◌};
 
 use crate::plain::aes as plain;
-use crate::rows::{block_in, bytes_in};
+use crate::rows::{Row, assert_rows, exactly, title};
 use aes_core::{Aes, CtrKind};
 use std::alloc::Global;
 use std::process::Abort;
@@ -57,63 +57,75 @@ const KINDS: [(&str, CtrKind); 3] = [
 ];
 
 // The kind of this name.
-fn kind_named(name: &str) -> Result<CtrKind, Fail> {
+fn kind_named(name: &str) -> Option<CtrKind> {
     for (word, kind) in &KINDS {
         if *word == name {
-            return Ok(*kind);
+            return Some(*kind);
         }
     }
-    Err("a kind of counter".into())
+    None
 }
 
-fn assert_enciphered(alloc: Global, row: &str) -> Result<(), Fail> {
-    let aes = Aes::new(&bytes_in(alloc, row, 1)?)?;
-    let found = aes.encrypt_block(&block_in(row, 2)?);
-    same_bytes(
-        alloc,
-        cell(row, 0)?,
-        "the cipher",
-        &block_in(row, 3)?,
-        &found,
-    )
+struct BlockRow;
+
+struct CounterRow;
+
+struct ChainRow;
+
+fn enciphered_block(key: &[u8], block: &[u8]) -> Option<[u8; 16]> {
+    Some(Aes::new(key).ok()?.encrypt_block(exactly(block)?))
 }
 
-fn assert_counted(alloc: Global, row: &str) -> Result<(), Fail> {
-    let kind = kind_named(cell(row, 1)?)?;
-    let aes = Aes::new(&bytes_in(alloc, row, 2)?)?;
-    let mut body = bytes_in(alloc, row, 4)?;
-    aes.ctr_xor(&block_in(row, 3)?, kind, &mut body);
-    same_bytes(
-        alloc,
-        cell(row, 0)?,
-        "the ciphertext",
-        &bytes_in(alloc, row, 5)?,
-        &body,
-    )
+fn counted(kind: CtrKind, key: &[u8], start: &[u8], text: &[u8]) -> Option<[u8; 64]> {
+    let mut body = [0; 64];
+    body.copy_from_slice(exactly::<64>(text)?);
+    Aes::new(key)
+        .ok()?
+        .ctr_xor(exactly(start)?, kind, &mut body);
+    Some(body)
 }
 
-fn assert_chained(alloc: Global, row: &str) -> Result<(), Fail> {
-    let aes = Aes::new(&bytes_in(alloc, row, 1)?)?;
-    let body = bytes_in(alloc, row, 3)?;
-    if body.len() % 16 != 0 {
-        return Err("whole blocks".into());
+fn chained(key: &[u8], start: &[u8], blocks: &[u8]) -> Option<[u8; 16]> {
+    if blocks.len() % 16 != 0 {
+        return None;
     }
-    let found = aes.chain(&block_in(row, 2)?, &body);
-    same_bytes(
-        alloc,
-        cell(row, 0)?,
-        "the last result",
-        &block_in(row, 4)?,
-        &found,
-    )
+    Some(Aes::new(key).ok()?.chain(exactly(start)?, blocks))
+}
+
+impl Row for BlockRow {
+    fn assert_row(alloc: Global, row: &str, cells: &[Vec<u8>]) -> Result<(), Fail> {
+        let [key, block, want] = cells else {
+            return Err("a key, a block and its cipher".into());
+        };
+        let found = enciphered_block(key, block).ok_or("a key and a block")?;
+        same_bytes(alloc, title(row), "the cipher", want, &found)
+    }
+}
+
+impl Row for CounterRow {
+    fn assert_row(alloc: Global, row: &str, cells: &[Vec<u8>]) -> Result<(), Fail> {
+        let [key, start, text, want] = cells else {
+            return Err("a key, a start, a text and its ciphertext".into());
+        };
+        let kind = kind_named(cell(row, 1)?).ok_or("a kind of counter")?;
+        let found = counted(kind, key, start, text).ok_or("a key, a start and 64 bytes")?;
+        same_bytes(alloc, title(row), "the ciphertext", want, &found)
+    }
+}
+
+impl Row for ChainRow {
+    fn assert_row(alloc: Global, row: &str, cells: &[Vec<u8>]) -> Result<(), Fail> {
+        let [key, start, blocks, want] = cells else {
+            return Err("a key, a start, blocks and the last result".into());
+        };
+        let found = chained(key, start, blocks).ok_or("a key, a start and whole blocks")?;
+        same_bytes(alloc, title(row), "the last result", want, &found)
+    }
 }
 
 #[test]
 fn enciphers_the_blocks_of_fips_197(rt: HostRuntime) -> Result<(), Fail> {
-    for row in FIPS_197.lines() {
-        assert_enciphered(rt.alloc(), row)?;
-    }
-    Ok(())
+    assert_rows::<BlockRow>(rt.alloc(), 1, FIPS_197)
 }
 
 // Lengths on both sides of the two that are taken, and that of AES-192.
@@ -126,18 +138,12 @@ fn refuses_keys_of_other_sizes(rt: HostRuntime) {
 
 #[test]
 fn counts_as_the_kind_says(rt: HostRuntime) -> Result<(), Fail> {
-    for row in COUNTED.lines() {
-        assert_counted(rt.alloc(), row)?;
-    }
-    Ok(())
+    assert_rows::<CounterRow>(rt.alloc(), 2, COUNTED)
 }
 
 #[test]
 fn chains_the_blocks_of_sp_800_38a(rt: HostRuntime) -> Result<(), Fail> {
-    for row in CHAINED.lines() {
-        assert_chained(rt.alloc(), row)?;
-    }
-    Ok(())
+    assert_rows::<ChainRow>(rt.alloc(), 1, CHAINED)
 }
 
 // ---- the fast bodies beside the plain ones

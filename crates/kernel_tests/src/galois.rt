@@ -1,11 +1,11 @@
 //! Published values of GHASH, of products and of subkeys; and the fast forms beside the plain ones.
 
 use crate::plain::galois::{ghash_by_blocks, mul_by_bits};
-use crate::rows::{bytes_in, number_of_block};
+use crate::rows::{Row, assert_rows, number_of, title};
 use ghash::{Ghash, dbl, mul};
 use std::alloc::Global;
 use std::test::Fail;
-use test_words::{cell, number_in, same_bytes};
+use test_words::{number_in, same_bytes};
 
 // A tag of GCM is GHASH plus the cipher of the first counter block. The values of GHASH are so
 // computed, with H, by python's cryptography, from the tags of The Galois/Counter Mode of Operation
@@ -65,92 +65,126 @@ fn ghash_in_pieces(h: u128, parts: &[&[u8]], size: usize) -> u128 {
 }
 
 // Bytes of which byte i is 7 i modulo 251.
-fn sevens(alloc: Global, size: usize) -> Result<Vec<u8>, Fail> {
-    let mut bytes = Vec::new(alloc);
-    for i in 0..size {
-        bytes.push((i % 251 * 7 % 251) as u8)?;
+fn sevens() -> [u8; 9999] {
+    let mut bytes = [0; 9999];
+    for (i, byte) in bytes.iter_mut().enumerate() {
+        *byte = (i % 251 * 7 % 251) as u8;
     }
-    Ok(bytes)
+    bytes
 }
 
-fn assert_hashed(alloc: Global, row: &str) -> Result<(), Fail> {
-    let ad = bytes_in(alloc, row, 2)?;
-    let text = bytes_in(alloc, row, 3)?;
-    let lengths = ((ad.len() as u128 * 8) << 64 | text.len() as u128 * 8).to_be_bytes();
-    let h = number_of_block(row, 1)?;
-    let want = bytes_in(alloc, row, 4)?;
-    for &(size, part) in &CUTS {
-        let found = ghash_in_pieces(h, &[&ad, &text, &lengths], size).to_be_bytes();
-        same_bytes(alloc, cell(row, 0)?, part, &want, &found)?;
-    }
-    Ok(())
+struct HashRow;
+
+struct LongHashRow;
+
+struct ProductRow;
+
+struct DoubledRow;
+
+// The block of the lengths of both parts, in bits.
+fn lengths(ad: &[u8], text: &[u8]) -> [u8; 16] {
+    ((ad.len() as u128 * 8) << 64 | text.len() as u128 * 8).to_be_bytes()
 }
 
-fn assert_long_hashed(alloc: Global, row: &str) -> Result<(), Fail> {
-    let data = sevens(alloc, number_in(row, 1)?)?;
-    let lengths = ((data.len() as u128 * 8) << 64).to_be_bytes();
-    let h = number_of_block(row, 2)?;
-    let want = bytes_in(alloc, row, 3)?;
-    for &(size, part) in &LONG_CUTS {
-        let found = ghash_in_pieces(h, &[&data, &lengths], size).to_be_bytes();
-        same_bytes(alloc, cell(row, 0)?, part, &want, &found)?;
+impl Row for HashRow {
+    fn assert_row(alloc: Global, row: &str, cells: &[Vec<u8>]) -> Result<(), Fail> {
+        let [h, ad, text, want] = cells else {
+            return Err("H, two parts and GHASH".into());
+        };
+        let h = number_of(h).ok_or("a block")?;
+        let parts: [&[u8]; 3] = [ad, text, &lengths(ad, text)];
+        for &(size, part) in &CUTS {
+            let found = ghash_in_pieces(h, &parts, size).to_be_bytes();
+            same_bytes(alloc, title(row), part, want, &found)?;
+        }
+        Ok(())
     }
-    Ok(())
 }
 
-fn assert_doubled(alloc: Global, row: &str) -> Result<(), Fail> {
-    let k1 = dbl(number_of_block(row, 1)?);
-    same_bytes(
-        alloc,
-        cell(row, 0)?,
-        "K1",
-        &bytes_in(alloc, row, 2)?,
-        &k1.to_be_bytes(),
-    )?;
-    same_bytes(
-        alloc,
-        cell(row, 0)?,
-        "K2",
-        &bytes_in(alloc, row, 3)?,
-        &dbl(k1).to_be_bytes(),
-    )
+impl Row for LongHashRow {
+    fn assert_row(alloc: Global, row: &str, cells: &[Vec<u8>]) -> Result<(), Fail> {
+        let [h, want] = cells else {
+            return Err("H and GHASH".into());
+        };
+        let h = number_of(h).ok_or("a block")?;
+        let sevens = sevens();
+        let data = sevens
+            .get(..number_in(row, 1)?)
+            .ok_or("9,999 bytes at most")?;
+        let parts: [&[u8]; 2] = [data, &lengths(data, &[])];
+        for &(size, part) in &LONG_CUTS {
+            let found = ghash_in_pieces(h, &parts, size).to_be_bytes();
+            same_bytes(alloc, title(row), part, want, &found)?;
+        }
+        Ok(())
+    }
+}
+
+fn product(x: &[u8], y: &[u8]) -> Option<[u8; 16]> {
+    Some(mul(number_of(x)?, number_of(y)?).to_be_bytes())
+}
+
+impl Row for ProductRow {
+    fn assert_row(alloc: Global, row: &str, cells: &[Vec<u8>]) -> Result<(), Fail> {
+        let [x, y, want] = cells else {
+            return Err("two blocks and their product".into());
+        };
+        let found = product(x, y).ok_or("two blocks")?;
+        same_bytes(alloc, title(row), "the product", want, &found)
+    }
+}
+
+impl Row for DoubledRow {
+    fn assert_row(alloc: Global, row: &str, cells: &[Vec<u8>]) -> Result<(), Fail> {
+        let [block, k1, k2] = cells else {
+            return Err("a block, K1 and K2".into());
+        };
+        let found = dbl(number_of(block).ok_or("a block")?);
+        same_bytes(alloc, title(row), "K1", k1, &found.to_be_bytes())?;
+        same_bytes(alloc, title(row), "K2", k2, &dbl(found).to_be_bytes())
+    }
 }
 
 #[test]
 fn hashes_the_published_cases_in_any_pieces(rt: HostRuntime) -> Result<(), Fail> {
-    for row in PUBLISHED.lines() {
-        assert_hashed(rt.alloc(), row)?;
-    }
-    Ok(())
+    assert_rows::<HashRow>(rt.alloc(), 1, PUBLISHED)
 }
 
 #[test]
 fn hashes_long_data_in_any_pieces(rt: HostRuntime) -> Result<(), Fail> {
-    for row in LONG.lines() {
-        assert_long_hashed(rt.alloc(), row)?;
-    }
-    Ok(())
+    assert_rows::<LongHashRow>(rt.alloc(), 2, LONG)
 }
 
 #[test]
 fn multiplies_as_printed(rt: HostRuntime) -> Result<(), Fail> {
-    for row in PRODUCTS.lines() {
-        let found = mul(number_of_block(row, 1)?, number_of_block(row, 2)?).to_be_bytes();
-        same_bytes(
-            rt.alloc(),
-            cell(row, 0)?,
-            "the product",
-            &bytes_in(rt.alloc(), row, 3)?,
-            &found,
-        )?;
-    }
-    Ok(())
+    assert_rows::<ProductRow>(rt.alloc(), 1, PRODUCTS)
 }
 
 #[test]
 fn doubles_as_printed(rt: HostRuntime) -> Result<(), Fail> {
-    for row in DOUBLED.lines() {
-        assert_doubled(rt.alloc(), row)?;
+    assert_rows::<DoubledRow>(rt.alloc(), 1, DOUBLED)
+}
+
+fn ghash_at_once(h: u128, data: &[u8]) -> u128 {
+    let mut hash = Ghash::new(h);
+    hash.absorb(data);
+    hash.finish()
+}
+
+// GHASH by a new one and by one that is kept, and a product after it, by the fast forms and the plain.
+fn assert_as_plainly(kept: &mut Ghash, h: u128, data: &[u8]) -> Result<(), (&'static str, usize)> {
+    let want = ghash_by_blocks(h, data);
+    if ghash_at_once(h, data) != want {
+        return Err(("GHASH of the plain form", data.len()));
+    }
+    kept.restart();
+    kept.absorb(data);
+    if kept.finish() != want {
+        return Err(("GHASH of the plain form, with all powers", data.len()));
+    }
+    let factor = h ^ data.len() as u128;
+    if mul(want, factor) != mul_by_bits(want, factor) {
+        return Err(("the product of the plain form", data.len()));
     }
     Ok(())
 }
@@ -158,28 +192,17 @@ fn doubles_as_printed(rt: HostRuntime) -> Result<(), Fail> {
 // Every length up to 400 bytes and those around 4,096, where a new GHASH goes from one power to
 // four and to eight; and the same by one GHASH that has all its powers, and starts again for each.
 #[test]
-fn gives_what_the_plain_forms_give(rt: HostRuntime) -> Result<(), Fail> {
+fn gives_what_the_plain_forms_give(_rt: HostRuntime) -> Result<(), Fail> {
     let h = 0xc6a13b37878f5b826f4f8162a1c8d879;
-    let data = sevens(rt.alloc(), 4113)?;
+    let sevens = sevens();
+    let data = sevens.get(..4113).ok_or("4,113 bytes")?;
     let mut kept = Ghash::new(h);
-    kept.absorb(&data);
+    kept.absorb(data);
     for size in 0..data.len() {
         if size > 400 && size < 4080 {
             continue;
         }
-        let want = ghash_by_blocks(h, &data[..size]);
-        let mut hash = Ghash::new(h);
-        hash.absorb(&data[..size]);
-        assert!(rt; hash.finish() == want, "{size} bytes");
-        kept.restart();
-        kept.absorb(&data[..size]);
-        assert!(rt; kept.finish() == want, "{size} bytes, with all powers");
-        let factor = h ^ size as u128;
-        let product = mul_by_bits(want, factor);
-        assert!(rt;
-            mul(want, factor) == product,
-            "the product after {size} bytes"
-        );
+        assert_as_plainly(&mut kept, h, &data[..size])?;
     }
     Ok(())
 }

@@ -1,13 +1,13 @@
 //! AES-GCM-SIV against printed and independent sealings, and altered ones refused.
 
-use crate::rows::bytes_in;
+use crate::rows::{Row, assert_rows, title};
 use crate::sealing::{
-    Alterations, SealingKey, assert_accepted, assert_altered_refused, opened, sealed,
+    Alterations, SealingKey, assert_accepted, assert_altered_refused, assert_opened, sealed,
 };
 use aes_core::Aes;
 use std::alloc::Global;
 use std::test::Fail;
-use test_words::cell;
+use test_words::same_bytes;
 
 // A row has what it shows, the key, the IV, the associated data, the plaintext, and ciphertext and tag.
 
@@ -64,15 +64,36 @@ a block and a byte, and a block less a byte of data, a key of 32 bytes|000102030
 five blocks, and one and a part of data, a key of 32 bytes|000102030405060708090a0b0c0d0e0f101112131415161718191a1b1c1d1e1f|6465666768696a6b6c6d6e6f|07121d28333e49545f6a75808b96a1acb7c2cdd8|070c11161b20252a2f34393e43484d52575c61666b70757a7f84898e93989da2a7acb1b6bbc0c5cacfd4d9dee3e8edf2f7fc01060b10151a1f24292e33383d42474c51565b60656a6f74797e83888d92|13f9be87b42286e000c665e4c2a859ac46c9c12f949977405c9bcffe96565d4bf64c68861cf5b5434aecaad220810a32fcdbebb66e0061af5f99092f857540de764161d83d4afac01373f9523d69fcbf88bd7ef5b663f8dcff9e99cd806389a3
 six blocks and a part of each, a key of 32 bytes|000102030405060708090a0b0c0d0e0f101112131415161718191a1b1c1d1e1f|6465666768696a6b6c6d6e6f|07121d28333e49545f6a75808b96a1acb7c2cdd8e3eef9040f1a25303b46515c67727d88939ea9b4bfcad5e0ebf6010c17222d38434e59646f7a85909ba6b1bcc7d2dde8f3fe09141f2a35404b56616c77828d98a3aeb9c4cfdae5f0fb06111c27323d48|070c11161b20252a2f34393e43484d52575c61666b70757a7f84898e93989da2a7acb1b6bbc0c5cacfd4d9dee3e8edf2f7fc01060b10151a1f24292e33383d42474c51565b60656a6f74797e83888d92979ca1a6abb0b5babfc4c9ced3d8dde2e7ecf1f6|357ae892cb8cd652a9a92f45b59ea431884f8276be02fdc9d4cfedcbae005cc7e6729e0e1f8f5421e3061c1554545a8ead7ab7d58a1e0d8efb4b3c360129f6c477c68ccccfe215f975024520be7482737e60eea1eaa689b73cf3635d2732c9ec0e2994c01d84e7a95d2e88e4a0e4cc4600199765";
 
-fn assert_row(alloc: Global, row: &str) -> Result<(), Fail> {
-    let shows = cell(row, 0)?;
-    let aes = Aes::new(&bytes_in(alloc, row, 1)?)?;
-    let key = &SealingKey::GcmSiv(&aes);
-    let iv = bytes_in(alloc, row, 2)?;
-    let ad = bytes_in(alloc, row, 3)?;
-    let plain = bytes_in(alloc, row, 4)?;
-    let mut want = bytes_in(alloc, row, 2)?;
-    want.extend_from_slice(&bytes_in(alloc, row, 5)?)?;
+struct SealedRow;
+
+impl Row for SealedRow {
+    fn assert_row(alloc: Global, row: &str, cells: &[Vec<u8>]) -> Result<(), Fail> {
+        let [key, iv, ad, plain, rest] = cells else {
+            return Err("a key, an IV, a datum, a plaintext, and ciphertext and tag".into());
+        };
+        let aes = Aes::new(key)?;
+        let want = [iv.as_slice(), rest].concat(alloc)?;
+        assert_sealing(
+            alloc,
+            title(row),
+            &SealingKey::GcmSiv(&aes),
+            iv,
+            ad,
+            plain,
+            &want,
+        )
+    }
+}
+
+fn assert_sealing(
+    alloc: Global,
+    shows: &str,
+    key: &SealingKey<'_>,
+    iv: &[u8],
+    ad: &[u8],
+    plain: &[u8],
+    want: &[u8],
+) -> Result<(), Fail> {
     let last = want.len().saturating_sub(1);
     // IV, text and tag; a byte less, and fewer bytes than IV and tag have.
     let altered = Alterations {
@@ -80,44 +101,56 @@ fn assert_row(alloc: Global, row: &str) -> Result<(), Fail> {
         places: &[0, 11, 12, last.saturating_sub(15), last],
         lengths: &[last, last.min(27)],
     };
-    assert_accepted(alloc, shows, key, &iv, &plain, &ad, &want)?;
-    assert_altered_refused(alloc, shows, key, &altered, &want, &ad)
-}
-
-fn assert_rows(alloc: Global, rows: &str) -> Result<(), Fail> {
-    for row in rows.lines() {
-        assert_row(alloc, row)?;
-    }
-    Ok(())
+    assert_accepted(alloc, shows, key, iv, plain, ad, want)?;
+    assert_altered_refused(alloc, shows, key, &altered, want, ad)
 }
 
 #[test]
 fn seals_and_opens_the_examples_of_rfc_8452(rt: HostRuntime) -> Result<(), Fail> {
-    assert_rows(rt.alloc(), RFC_8452)
+    assert_rows::<SealedRow>(rt.alloc(), 1, RFC_8452)
 }
 
 #[test]
 fn seals_and_opens_what_openssl_does_by_gcm_siv(rt: HostRuntime) -> Result<(), Fail> {
-    assert_rows(rt.alloc(), OF_OPENSSL)
+    assert_rows::<SealedRow>(rt.alloc(), 1, OF_OPENSSL)
+}
+
+// The tag is that of Python's cryptography.
+fn assert_long_text(alloc: Global, key: &SealingKey<'_>, found: &[u8]) -> Result<(), Fail> {
+    let (_, tag) = found.split_last_chunk::<16>().ok_or("a tag")?;
+    let want = 0xE73F27F30646A5DED95DC16FA2178898_u128.to_be_bytes();
+    same_bytes(alloc, "a long text", "the tag", &want, tag)?;
+    assert_opened(
+        alloc,
+        "a long text",
+        "data of a byte less",
+        key,
+        found,
+        &[7; 699],
+        None,
+    )?;
+    let plain = Some([0; 5000].as_slice());
+    assert_opened(
+        alloc,
+        "a long text",
+        "the plaintext",
+        key,
+        found,
+        &[7; 700],
+        plain,
+    )
 }
 
 // Texts that are longer than what is turned round at a time, and long enough for all powers of the
-// hash subkey, under the key of the bytes from 0 to 31 and the IV of those from 0 to 11. The tag is that
-// of Python's cryptography.
+// hash subkey, under the key of the bytes from 0 to 31 and the IV of those from 0 to 11.
 #[test]
 fn seals_and_opens_a_long_text(rt: HostRuntime) -> Result<(), Fail> {
     let counting: [u8; 32] = [
         0, 1, 2, 3, 4, 5, 6, 7, 8, 9, 10, 11, 12, 13, 14, 15, 16, 17, 18, 19, 20, 21, 22, 23, 24,
         25, 26, 27, 28, 29, 30, 31,
     ];
-    let alloc = rt.alloc();
     let aes = Aes::new(&counting)?;
     let key = &SealingKey::GcmSiv(&aes);
-    let found = sealed(alloc, key, &[], &counting[..12], &[0; 5000], &[7; 700])?;
-    let (_, tag) = found.split_last_chunk::<16>().ok_or("a tag")?;
-    assert!(rt; *tag == 0xE73F27F30646A5DED95DC16FA2178898_u128.to_be_bytes());
-    assert!(rt; opened(alloc, key, &found, &[7; 699])?.is_none());
-    let back = opened(alloc, key, &found, &[7; 700])?.ok_or("it opens")?;
-    assert!(rt; back.as_slice() == [0; 5000].as_slice());
-    Ok(())
+    let found = sealed(rt.alloc(), key, &[], &counting[..12], &[0; 5000], &[7; 700])?;
+    assert_long_text(rt.alloc(), key, &found)
 }

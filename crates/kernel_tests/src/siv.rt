@@ -1,13 +1,13 @@
 //! AES-SIV against printed and independent sealings, and altered ones refused.
 
-use crate::rows::bytes_in;
+use crate::rows::{Row, assert_rows, title};
 use crate::sealing::{Alterations, SealingKey, assert_accepted, assert_altered_refused, sealed};
 use aes_core::Aes;
 use mac_prf::Cmac;
 use siv_daead::SivKey;
 use std::alloc::Global;
 use std::test::Fail;
-use test_words::{cell, counting};
+use test_words::{counting, same_bytes};
 
 // A row has what it shows, the key, the associated datum, the plaintext, and SIV and ciphertext.
 
@@ -33,13 +33,26 @@ a block less a byte, a key of 32 bytes|fffefdfcfbfaf9f8f7f6f5f4f3f2f1f0f0f1f2f3f
 a block, a key of 64 bytes|fffefdfcfbfaf9f8f7f6f5f4f3f2f1f0f0f1f2f3f4f5f6f7f8f9fafbfcfdfeff000102030405060708090a0b0c0d0e0f101112131415161718191a1b1c1d1e1f|101112131415161718191a1b1c1d1e1f2021222324252627|000102030405060708090a0b0c0d0e0f|22a4e63521fcdc685fe4eb0984d60745d47a88f6c39e7902ec4f28efab6dcb6a
 five blocks, a key of 32 bytes|fffefdfcfbfaf9f8f7f6f5f4f3f2f1f0f0f1f2f3f4f5f6f7f8f9fafbfcfdfeff|101112131415161718191a1b1c1d1e1f2021222324252627|000102030405060708090a0b0c0d0e0f101112131415161718191a1b1c1d1e1f202122232425262728292a2b2c2d2e2f303132333435363738393a3b3c3d3e3f404142434445464748494a4b4c4d4e4f|defef053c0d7ce1e58f3eaa7da36a22d2e66f23a707f71c4051fdf67e301ddac2eab10274da69d8ef8c8255bf7d856beba6d7a8507a2da60eb1816e79eff849e794efeda932426ef16575043bb4e832ca93591c70c7f61fbe25bdb61d66e29bd";
 
-fn assert_row(alloc: Global, row: &str) -> Result<(), Fail> {
-    let shows = cell(row, 0)?;
-    let siv_key = SivKey::new(&bytes_in(alloc, row, 1)?)?;
-    let key = &SealingKey::Siv(&siv_key);
-    let ad = bytes_in(alloc, row, 2)?;
-    let plain = bytes_in(alloc, row, 3)?;
-    let want = bytes_in(alloc, row, 4)?;
+struct SealedRow;
+
+impl Row for SealedRow {
+    fn assert_row(alloc: Global, row: &str, cells: &[Vec<u8>]) -> Result<(), Fail> {
+        let [key, ad, plain, want] = cells else {
+            return Err("a key, a datum, a plaintext and its sealing".into());
+        };
+        assert_sealing(alloc, title(row), &SivKey::new(key)?, ad, plain, want)
+    }
+}
+
+fn assert_sealing(
+    alloc: Global,
+    shows: &str,
+    key: &SivKey,
+    ad: &[u8],
+    plain: &[u8],
+    want: &[u8],
+) -> Result<(), Fail> {
+    let key = &SealingKey::Siv(key);
     let last = want.len().saturating_sub(1);
     // In the bytes 8 and 12 of an SIV this is the bit that the counter leaves out.
     let altered = Alterations {
@@ -47,43 +60,37 @@ fn assert_row(alloc: Global, row: &str) -> Result<(), Fail> {
         places: &[0, 8, 12, 15, last],
         lengths: &[last],
     };
-    assert_accepted(alloc, shows, key, &[0; 16], &plain, &ad, &want)?;
-    assert_altered_refused(alloc, shows, key, &altered, &want, &ad)
-}
-
-fn assert_rows(alloc: Global, rows: &str) -> Result<(), Fail> {
-    for row in rows.lines() {
-        assert_row(alloc, row)?;
-    }
-    Ok(())
+    assert_accepted(alloc, shows, key, &[0; 16], plain, ad, want)?;
+    assert_altered_refused(alloc, shows, key, &altered, want, ad)
 }
 
 #[test]
 fn seals_and_opens_the_example_of_rfc_5297(rt: HostRuntime) -> Result<(), Fail> {
-    assert_rows(rt.alloc(), RFC_5297)
+    assert_rows::<SealedRow>(rt.alloc(), 1, RFC_5297)
 }
 
 #[test]
 fn seals_and_opens_what_another_tink_does(rt: HostRuntime) -> Result<(), Fail> {
-    assert_rows(rt.alloc(), OF_TINK)
+    assert_rows::<SealedRow>(rt.alloc(), 1, OF_TINK)
 }
 
 #[test]
 fn seals_and_opens_what_openssl_does(rt: HostRuntime) -> Result<(), Fail> {
-    assert_rows(rt.alloc(), OF_OPENSSL)
+    assert_rows::<SealedRow>(rt.alloc(), 1, OF_OPENSSL)
 }
 
 // The texts of 0 to 130 bytes, so that each place round the ends of blocks is met: where the last 16
 // bytes begin, and where counter mode takes four blocks at a time.
 const LONGEST: usize = 130;
 
-// Seals so many of the bytes that count up, opens it, and alters it on both sides of its last 16
-// bytes and elsewhere.
-fn sealed_and_altered(alloc: Global, siv_key: &SivKey, size: usize) -> Result<Vec<u8>, Fail> {
-    let key = &SealingKey::Siv(siv_key);
-    let plain = counting(alloc, size)?;
-    let ad = counting(alloc, size % 20)?;
-    let found = sealed(alloc, key, &[], &[0; 16], &plain, &ad)?;
+// What was sealed is opened, and altered on both sides of its last 16 bytes and elsewhere.
+fn assert_length(
+    alloc: Global,
+    key: &SealingKey<'_>,
+    plain: &[u8],
+    ad: &[u8],
+    found: &[u8],
+) -> Result<(), Fail> {
     let last = found.len().saturating_sub(1);
     let back = last.saturating_sub(15);
     let altered = Alterations {
@@ -91,33 +98,52 @@ fn sealed_and_altered(alloc: Global, siv_key: &SivKey, size: usize) -> Result<Ve
         places: &[0, 15, last / 2, back.saturating_sub(1), back, last],
         lengths: &[last, last / 2],
     };
-    assert_accepted(alloc, "each length", key, &[0; 16], &plain, &ad, &found)?;
-    assert_altered_refused(alloc, "each length", key, &altered, &found, &ad)?;
-    Ok(found)
+    assert_accepted(alloc, "each length", key, &[0; 16], plain, ad, found)?;
+    assert_altered_refused(alloc, "each length", key, &altered, found, ad)
+}
+
+// Seals the plaintext, and adds what was sealed to the message of the tag.
+fn assert_sealed_and_tagged(
+    alloc: Global,
+    key: &SealingKey<'_>,
+    plain: &[u8],
+    ad: &[u8],
+    tag: &mut Cmac<'_>,
+) -> Result<(), Fail> {
+    let found = sealed(alloc, key, &[], &[0; 16], plain, ad)?;
+    tag.update(&found);
+    assert_length(alloc, key, plain, ad, &found)
 }
 
 // Under the key of so many bytes that count up: CMAC of the sealings of all lengths, joined, under
 // the first 16 of these bytes.
-fn tag_of_lengths(alloc: Global, size: usize) -> Result<[u8; 16], Fail> {
-    let bytes = counting(alloc, size)?;
-    let siv_key = SivKey::new(&bytes)?;
-    let aes = Aes::new(&counting(alloc, 16)?)?;
+fn tag_of_lengths(alloc: Global, bytes: &[u8], size: usize) -> Result<[u8; 16], Fail> {
+    let siv_key = SivKey::new(bytes.get(..size).ok_or("a key")?)?;
+    let key = &SealingKey::Siv(&siv_key);
+    let aes = Aes::new(bytes.get(..16).ok_or("a key")?)?;
     let mut tag = Cmac::under(&aes);
     for length in 0..=LONGEST {
-        tag.update(&sealed_and_altered(alloc, &siv_key, length)?);
+        let plain = bytes.get(..length).ok_or("a text")?;
+        let ad = bytes.get(..length % 20).ok_or("associated data")?;
+        assert_sealed_and_tagged(alloc, key, plain, ad, &mut tag)?;
     }
     Ok(tag.finish())
+}
+
+fn assert_lengths(alloc: Global, bytes: &[u8]) -> Result<(), Fail> {
+    let of_32 = 0x4CC3EDFCF0D2B019E496AC310681BCF6_u128.to_be_bytes();
+    let of_64 = 0x9571D31BA14365199014ED42BA99EDBE_u128.to_be_bytes();
+    let found = tag_of_lengths(alloc, bytes, 32)?;
+    same_bytes(alloc, "a key of 32 bytes", "the tag", &of_32, &found)?;
+    let found = tag_of_lengths(alloc, bytes, 64)?;
+    same_bytes(alloc, "a key of 64 bytes", "the tag", &of_64, &found)
 }
 
 // The tags are those of what OpenSSL seals, by Python's cryptography.
 #[test]
 fn seals_and_opens_texts_of_each_length(rt: HostRuntime) -> Result<(), Fail> {
-    let alloc = rt.alloc();
-    let of_32 = 0x4CC3EDFCF0D2B019E496AC310681BCF6_u128.to_be_bytes();
-    let of_64 = 0x9571D31BA14365199014ED42BA99EDBE_u128.to_be_bytes();
-    assert!(rt; tag_of_lengths(alloc, 32)? == of_32);
-    assert!(rt; tag_of_lengths(alloc, 64)? == of_64);
-    Ok(())
+    let bytes = counting(rt.alloc(), LONGEST)?;
+    assert_lengths(rt.alloc(), &bytes)
 }
 
 // Lengths on both sides of the two that are taken, and that of two keys of AES-192.

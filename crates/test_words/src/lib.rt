@@ -3,7 +3,6 @@
 #![tactic(auto)]
 
 use std::alloc::Global;
-use std::ops::Range;
 use std::str::from_utf8;
 use std::test::Fail;
 use tink_base::{Created, Hash, Loaded, StoreError};
@@ -71,22 +70,6 @@ pub fn counting(alloc: Global, size: usize) -> Result<Vec<u8>, Fail> {
         bytes.push((i % 251) as u8)?;
     }
     Ok(bytes)
-}
-
-/// What stands in that range of the bytes, which were opened in place. Where they were refused, they are
-/// to be as these others, which they were before.
-pub fn opened_in(
-    alloc: Global,
-    bytes: &[u8],
-    range: Option<Range<usize>>,
-    before: &[u8],
-) -> Result<Option<Vec<u8>>, Fail> {
-    let Some(range) = range else {
-        same_bytes(alloc, "a refusal", "what was refused", before, bytes)?;
-        return Ok(None);
-    };
-    let plain = bytes.get(range).ok_or("a range of the bytes")?;
-    Ok(Some(plain.to_vec(alloc)?))
 }
 
 /// The failure of a row, where this part of it isn't as expected.

@@ -1,11 +1,11 @@
 //! CMAC against printed and independent tags, of messages that come in pieces.
 
-use crate::rows::bytes_in;
+use crate::rows::{Row, assert_rows, title};
 use aes_core::Aes;
 use mac_prf::Cmac;
 use std::alloc::Global;
 use std::test::Fail;
-use test_words::{cell, same_bytes};
+use test_words::same_bytes;
 
 // What it shows, key, message and tag: RFC 4493, section 4, and SP 800-38B (2005), D.3, whose tags
 // Python's cryptography gives too; and the last three from there alone.
@@ -40,26 +40,31 @@ fn tag_in_pieces(key: &Aes, message: &[u8], cut: usize) -> [u8; 16] {
     cmac.finish()
 }
 
-fn assert_row(alloc: Global, row: &str) -> Result<(), Fail> {
-    let key = Aes::new(&bytes_in(alloc, row, 1)?)?;
-    let message = bytes_in(alloc, row, 2)?;
-    let want = bytes_in(alloc, row, 3)?;
+struct TagRow;
+
+impl Row for TagRow {
+    fn assert_row(alloc: Global, row: &str, cells: &[Vec<u8>]) -> Result<(), Fail> {
+        let [key, message, want] = cells else {
+            return Err("a key, a message and a tag".into());
+        };
+        assert_tagged(alloc, title(row), &Aes::new(key)?, message, want)
+    }
+}
+
+fn assert_tagged(
+    alloc: Global,
+    shows: &str,
+    key: &Aes,
+    message: &[u8],
+    want: &[u8],
+) -> Result<(), Fail> {
     for &(cut, part) in &CUTS {
-        same_bytes(
-            alloc,
-            cell(row, 0)?,
-            part,
-            &want,
-            &tag_in_pieces(&key, &message, cut),
-        )?;
+        same_bytes(alloc, shows, part, want, &tag_in_pieces(key, message, cut))?;
     }
     Ok(())
 }
 
 #[test]
 fn tags_the_messages_of_the_standard_in_any_pieces(rt: HostRuntime) -> Result<(), Fail> {
-    for row in ROWS.lines() {
-        assert_row(rt.alloc(), row)?;
-    }
-    Ok(())
+    assert_rows::<TagRow>(rt.alloc(), 1, ROWS)
 }

@@ -1,7 +1,7 @@
 //! HKDF against the cases of RFC 5869, and of the greatest length.
 
-use crate::rows::bytes_in;
-use mac_prf::{hkdf, hkdf_expand, hkdf_extract};
+use crate::rows::{Row, assert_rows, title};
+use mac_prf::{Hmac, hkdf, hkdf_expand, hkdf_extract};
 use std::alloc::Global;
 use std::test::Fail;
 use test_words::{cell, hash_named, same_bytes};
@@ -29,43 +29,66 @@ const SIZES: [(usize, &str); 7] = [
     (82, "the first 82 bytes"),
 ];
 
-fn assert_row(alloc: Global, row: &str) -> Result<(), Fail> {
-    let hash = hash_named(cell(row, 1)?)?;
-    let secret = bytes_in(alloc, row, 2)?;
-    let salt = bytes_in(alloc, row, 3)?;
-    let info = bytes_in(alloc, row, 4)?;
-    let want = bytes_in(alloc, row, 5)?;
-    let kept = hkdf_extract(hash, &secret, &salt);
+struct DerivedRow;
+
+impl Row for DerivedRow {
+    fn assert_row(alloc: Global, row: &str, cells: &[Vec<u8>]) -> Result<(), Fail> {
+        let [secret, salt, info, want] = cells else {
+            return Err("a secret, a salt, an info and what is derived".into());
+        };
+        let hash = hash_named(cell(row, 1)?)?;
+        assert_derived(alloc, title(row), hash, secret, salt, info, want)?;
+        let kept = hkdf_extract(hash, secret, salt);
+        assert_expanded(alloc, title(row), &kept, info, want)
+    }
+}
+
+fn assert_derived(
+    alloc: Global,
+    shows: &str,
+    hash: Hash,
+    secret: &[u8],
+    salt: &[u8],
+    info: &[u8],
+    want: &[u8],
+) -> Result<(), Fail> {
     for &(size, part) in &SIZES {
-        let want = &want[..size.min(want.len())];
-        let mut out = vec![in alloc; 0_u8; want.len()]?;
-        hkdf(hash, &secret, &salt, &info, &mut out)?;
-        same_bytes(alloc, cell(row, 0)?, part, want, &out)?;
-        let mut again = vec![in alloc; 0_u8; want.len()]?;
-        hkdf_expand(&kept, &info, &mut again)?;
-        same_bytes(
-            alloc,
-            cell(row, 0)?,
-            "the same of a key that is kept",
-            want,
-            &again,
-        )?;
+        let want = want.get(..size).unwrap_or(want);
+        let mut longest = [0; 82];
+        let out = longest.get_mut(..want.len()).ok_or("82 bytes at most")?;
+        hkdf(hash, secret, salt, info, out)?;
+        same_bytes(alloc, shows, part, want, out)?;
+    }
+    Ok(())
+}
+
+// The same of a key that is kept.
+fn assert_expanded(
+    alloc: Global,
+    shows: &str,
+    kept: &Hmac,
+    info: &[u8],
+    want: &[u8],
+) -> Result<(), Fail> {
+    for &(size, _) in &SIZES {
+        let want = want.get(..size).unwrap_or(want);
+        let mut longest = [0; 82];
+        let out = longest.get_mut(..want.len()).ok_or("82 bytes at most")?;
+        hkdf_expand(kept, info, out)?;
+        same_bytes(alloc, shows, "the same of a key that is kept", want, out)?;
     }
     Ok(())
 }
 
 #[test]
 fn derives_the_bytes_of_rfc_5869_at_any_length(rt: HostRuntime) -> Result<(), Fail> {
-    for row in RFC_5869.lines() {
-        assert_row(rt.alloc(), row)?;
-    }
-    Ok(())
+    assert_rows::<DerivedRow>(rt.alloc(), 2, RFC_5869)
 }
 
 // The last bytes are those of Python's cryptography.
 #[test]
 fn gives_255_digests(rt: HostRuntime) -> Result<(), Fail> {
-    let mut out = vec![in rt.alloc(); 0_u8; 5100]?;
+    let mut out = [0; 5100];
     hkdf(Hash::Sha1, b"secret", b"salt", b"info", &mut out)?;
     let last = 0x3d93c5c1fb4e763a11628ad925d47020_u128.to_be_bytes();
     assert!(rt; out.ends_with(&last), "the last 16 bytes");
@@ -73,10 +96,8 @@ fn gives_255_digests(rt: HostRuntime) -> Result<(), Fail> {
 }
 
 #[test]
-fn refuses_a_byte_more_than_255_digests(rt: HostRuntime) -> Result<(), Fail> {
-    let mut out = vec![in rt.alloc(); 0xee_u8; 5101]?;
-    let refused = hkdf(Hash::Sha1, b"secret", b"salt", b"info", &mut out);
-    assert!(rt; refused.is_err());
-    assert!(rt; out.iter().all(|byte| *byte == 0xee), "as before");
-    Ok(())
+fn refuses_a_byte_more_than_255_digests(rt: HostRuntime) {
+    let mut out = [0xee; 5101];
+    assert!(rt; hkdf(Hash::Sha1, b"secret", b"salt", b"info", &mut out).is_err());
+    assert!(rt; out == [0xee; 5101], "as before");
 }
