@@ -20,23 +20,67 @@ pub(crate) fn run_changed<R: Runner>(
     differences: &mut Differences,
 ) -> Result<(), Fail> {
     let bytes = taken_of(alloc, names, row)?;
-    let (status, line) = row
-        .cell(Column::Changed)
-        .split_once(": ")
-        .ok_or("a status and a line")?;
-    let refused = row
-        .with(Column::Status, status)
+    match row.cell(Column::Changed).split_once(": ") {
+        Some((status, line)) => {
+            let row = refused(row, status, line);
+            run_over(alloc, runner, names, &row, &bytes, differences)
+        }
+        None => Err("a status and a line".into()),
+    }
+}
+
+/// The row of a run that is refused with this status and line.
+fn refused<'a>(row: &Row<'a>, status: &'a str, line: &'a str) -> Row<'a> {
+    row.with(Column::Status, status)
         .with(Column::Line, line)
         .with(Column::Output, "")
-        .with(Column::Made, "none");
+        .with(Column::Made, "none")
+}
+
+/// Runs over each change of these bytes.
+fn run_over<R: Runner>(
+    alloc: Global,
+    runner: &R,
+    names: &Names,
+    row: &Row<'_>,
+    bytes: &[u8],
+    differences: &mut Differences,
+) -> Result<(), Fail> {
     for place in 0..bytes.len() {
-        let front = bytes.get(..place).ok_or("a front")?;
-        run_with(alloc, runner, names, &refused, front, differences)?;
-        run_turned(alloc, runner, names, &refused, &bytes, place, differences)?;
+        run_at(alloc, runner, names, row, bytes, place, differences)?;
     }
+    run_longer(alloc, runner, names, row, bytes, differences)
+}
+
+/// Runs over the bytes before this place, and with a bit flipped of the byte there.
+fn run_at<R: Runner>(
+    alloc: Global,
+    runner: &R,
+    names: &Names,
+    row: &Row<'_>,
+    bytes: &[u8],
+    place: usize,
+    differences: &mut Differences,
+) -> Result<(), Fail> {
+    let Some(front) = bytes.get(..place) else {
+        return Err("a front".into());
+    };
+    run_with(alloc, runner, names, row, front, differences)?;
+    run_turned(alloc, runner, names, row, bytes, place, differences)
+}
+
+/// Runs with one more byte.
+fn run_longer<R: Runner>(
+    alloc: Global,
+    runner: &R,
+    names: &Names,
+    row: &Row<'_>,
+    bytes: &[u8],
+    differences: &mut Differences,
+) -> Result<(), Fail> {
     let mut longer = bytes.to_vec(alloc)?;
     longer.push(0)?;
-    run_with(alloc, runner, names, &refused, &longer, differences)
+    run_with(alloc, runner, names, row, &longer, differences)
 }
 
 /// The bytes of the tag, or of the input.
@@ -61,7 +105,10 @@ fn run_turned<R: Runner>(
     differences: &mut Differences,
 ) -> Result<(), Fail> {
     let mut turned = bytes.to_vec(alloc)?;
-    *turned.get_mut(place).ok_or("a place")? ^= 1 << (place % 8);
+    let Some(byte) = turned.get_mut(place) else {
+        return Err("a place".into());
+    };
+    *byte ^= 1 << (place % 8);
     run_with(alloc, runner, names, row, &turned, differences)
 }
 
@@ -77,8 +124,7 @@ fn run_with<R: Runner>(
     let digits = hex::encode(alloc, bytes)?;
     match row.cell(Column::Words).split_once("--tag-hex ") {
         Some((front, behind)) => {
-            let others = behind.split_once(' ').unwrap_or(("", "")).1;
-            let words = format!(in alloc; "{front}--tag-hex={digits} {others}")?;
+            let words = words_with(alloc, front, &digits, behind)?;
             let row = row.with(Column::Words, &words);
             run_once(alloc, runner, names, &row, differences)
         }
@@ -87,6 +133,12 @@ fn run_with<R: Runner>(
             run_once(alloc, runner, names, &row, differences)
         }
     }
+}
+
+/// The words with these digits in the place of the tag, which is the first word of `behind`.
+fn words_with(alloc: Global, front: &str, digits: &str, behind: &str) -> Result<String, Fail> {
+    let others = behind.split_once(' ').unwrap_or(("", "")).1;
+    Ok(format!(in alloc; "{front}--tag-hex={digits} {others}")?)
 }
 
 /// Runs a row once, and compares how it ended.

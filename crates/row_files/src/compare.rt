@@ -76,7 +76,7 @@ fn hold_output(
             let expected = bytes_of(alloc, names, cell)?;
             differences.hold_bytes(alloc, "output", &expected, &came.output)
         }
-        Some((first, rest)) => hold_ends(alloc, names, first, rest, came, differences),
+        Some((first, rest)) => hold_ends(alloc, names, first, rest, &came.output, differences),
     }
 }
 
@@ -86,17 +86,40 @@ fn hold_ends(
     names: &Names,
     first: &str,
     rest: &str,
-    came: &Outcome,
+    output: &[u8],
     differences: &mut Differences,
 ) -> Result<(), Fail> {
-    let (count, last) = rest.split_once(' ').ok_or("a count and the last bytes")?;
-    let output = came.output.as_slice();
+    let Some((count, last)) = rest.split_once(' ') else {
+        return Err("a count and the last bytes".into());
+    };
     if count != "*" {
         differences.hold_count(alloc, "output's size", count, output.len())?;
     }
+    hold_begin(alloc, names, first, output, differences)?;
+    hold_end(alloc, names, last, output, differences)
+}
+
+/// The output has these first bytes.
+fn hold_begin(
+    alloc: Global,
+    names: &Names,
+    first: &str,
+    output: &[u8],
+    differences: &mut Differences,
+) -> Result<(), Fail> {
     let first = bytes_of(alloc, names, first)?;
     let begin = output.get(..first.len()).unwrap_or(output);
-    differences.hold_bytes(alloc, "output's begin", &first, begin)?;
+    differences.hold_bytes(alloc, "output's begin", &first, begin)
+}
+
+/// The output has these last bytes.
+fn hold_end(
+    alloc: Global,
+    names: &Names,
+    last: &str,
+    output: &[u8],
+    differences: &mut Differences,
+) -> Result<(), Fail> {
     let last = bytes_of(alloc, names, last)?;
     let from = output.len().saturating_sub(last.len());
     let end = output.get(from..).unwrap_or(output);
@@ -145,29 +168,49 @@ fn hold_given(
     if cell.is_empty() {
         return Ok(());
     }
-    let given = came.given.ok_or("files whose bytes are counted")?;
+    match came.given {
+        Some(given) => hold_most(alloc, cell, given, differences),
+        None => Err("files whose bytes are counted".into()),
+    }
+}
+
+/// At most as many bytes of files were given as the cell says.
+fn hold_most(
+    alloc: Global,
+    cell: &str,
+    given: u64,
+    differences: &mut Differences,
+) -> Result<(), Fail> {
     if given <= cell.parse::<u64>()? {
         return Ok(());
     }
     let most = format!(in alloc; "at most {cell}")?;
-    differences.differs(alloc, "given", &most, &format!(in alloc; "{given}")?)
+    let given = format!(in alloc; "{given}")?;
+    differences.differs(alloc, "given", &most, &given)
 }
 
 /// The bytes of the lines that a cell gives.
 fn line_of(alloc: Global, names: &Names, cell: &str) -> Result<Vec<u8>, Fail> {
-    if let Some(items) = cell.strip_prefix('=') {
-        return bytes_of(alloc, names, items);
+    match cell.strip_prefix('=') {
+        Some(items) => bytes_of(alloc, names, items),
+        None => written_line(alloc, &cell.replace(alloc, " / ", "\n")?),
     }
-    let lines = cell.replace(alloc, " / ", "\n")?;
-    let mut line = Vec::new(alloc);
-    let lines = lines.as_str();
+}
+
+/// The bytes of lines that are written as text: a newline ends them, unless there are none, or only
+/// their beginning is written.
+fn written_line(alloc: Global, lines: &str) -> Result<Vec<u8>, Fail> {
     match lines.strip_suffix("..").or(lines.strip_suffix("*")) {
-        Some(front) => line.extend_from_slice(front.as_bytes())?,
-        None if cell.is_empty() => {}
-        None => {
-            line.extend_from_slice(lines.as_bytes())?;
-            line.push(b'\n')?;
-        }
+        Some(front) => Ok(front.as_bytes().to_vec(alloc)?),
+        None => whole_line(alloc, lines),
+    }
+}
+
+/// The bytes of lines with a newline after them, if there are any.
+fn whole_line(alloc: Global, lines: &str) -> Result<Vec<u8>, Fail> {
+    let mut line = lines.as_bytes().to_vec(alloc)?;
+    if !lines.is_empty() {
+        line.push(b'\n')?;
     }
     Ok(line)
 }

@@ -115,24 +115,37 @@ impl Differences {
 
 /// The place of the first byte that differs, or the end of the shorter list.
 fn first_unlike(expected: &[u8], came: &[u8]) -> usize {
-    for (at, (one, other)) in expected.iter().zip(came).enumerate() {
-        if one != other {
+    let shorter = expected.len().min(came.len());
+    for at in 0..shorter {
+        if expected[at] != came[at] {
             return at;
         }
     }
-    expected.len().min(came.len())
+    shorter
 }
 
 /// How many bytes there are, and a few of them from this place on: as text if they are text.
 fn from_there(alloc: Global, bytes: &[u8], at: usize) -> Result<String, Fail> {
-    let size = bytes.len();
-    let rest = bytes.get(at..).unwrap_or(b"");
-    let rest = rest.get(..SHOWN).unwrap_or(rest);
-    match from_utf8(rest) {
-        Ok(text) => Ok(format!(in alloc; "{size} bytes, from {at} on {text:?}")?),
-        Err(_) => {
-            let digits = hex::encode(alloc, rest)?;
-            Ok(format!(in alloc; "{size} bytes, from {at} on {digits}")?)
-        }
+    let shown = shown_from(bytes, at);
+    match from_utf8(shown) {
+        Ok(text) => with_text(alloc, bytes.len(), at, text),
+        Err(_) => with_digits(alloc, bytes.len(), at, shown),
     }
+}
+
+/// A few bytes from this place on.
+fn shown_from(bytes: &[u8], at: usize) -> &[u8] {
+    let rest = bytes.get(at..).unwrap_or(b"");
+    rest.get(..SHOWN).unwrap_or(rest)
+}
+
+/// How many bytes there are, and the text from this place on.
+fn with_text(alloc: Global, size: usize, at: usize, text: &str) -> Result<String, Fail> {
+    Ok(format!(in alloc; "{size} bytes, from {at} on {text:?}")?)
+}
+
+/// How many bytes there are, and in hexadecimal those from this place on.
+fn with_digits(alloc: Global, size: usize, at: usize, shown: &[u8]) -> Result<String, Fail> {
+    let digits = hex::encode(alloc, shown)?;
+    Ok(format!(in alloc; "{size} bytes, from {at} on {digits}")?)
 }

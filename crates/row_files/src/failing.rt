@@ -54,16 +54,35 @@ fn run_until_whole<R: Runner>(
     differences: &mut Differences,
 ) -> Result<usize, Fail> {
     for before in 0..10000_usize {
-        let fails = format!(in alloc; "{} {}", end.0, before.saturating_add(1))?;
-        let row = row.with(Column::Fails, &fails);
-        let came = outcome_of(alloc, runner, names, &row)?;
-        if came.faults == 0 {
-            compare(alloc, names, &row, &came, differences)?;
+        let faults = run_failing(alloc, runner, names, row, whole, end, before, differences)?;
+        if faults == 0 {
             return Ok(before);
         }
-        compare_fault(alloc, names, &row, whole, end, before, &came, differences)?;
     }
     Err("a run that meets no fault".into())
+}
+
+/// Runs a row with the call of this name failing that comes after `before` others of it. Returns how
+/// many calls failed: if none, the run ends as the row says.
+fn run_failing<R: Runner>(
+    alloc: Global,
+    runner: &R,
+    names: &Names,
+    row: &Row<'_>,
+    whole: &Outcome,
+    end: (&str, &str, &str),
+    before: usize,
+    differences: &mut Differences,
+) -> Result<u64, Fail> {
+    let fails = format!(in alloc; "{} {}", end.0, before.saturating_add(1))?;
+    let row = row.with(Column::Fails, &fails);
+    let came = outcome_of(alloc, runner, names, &row)?;
+    if came.faults == 0 {
+        compare(alloc, names, &row, &came, differences)?;
+    } else {
+        compare_fault(alloc, names, &row, whole, end, before, &came, differences)?;
+    }
+    Ok(came.faults)
 }
 
 /// How many bytes of these lines `calls` calls write, which move a piece each: no call moves bytes
@@ -100,28 +119,52 @@ fn compare_fault(
     let moved = before.saturating_mul(piece);
     differences.hold_count(alloc, "count of faults", "1", came.faults as usize)?;
     if end.1.is_empty() {
-        let size = front_size(from_utf8(&whole.line)?, piece, before);
-        let front = from_utf8(whole.line.get(..size).ok_or("a line so long")?)?;
-        let line = format!(in alloc; "{front}..")?;
-        return compare(
-            alloc,
-            names,
-            &row.with(Column::Line, &line),
-            came,
-            differences,
-        );
+        let line = line_before(alloc, &whole.line, piece, before)?;
+        let row = row.with(Column::Line, &line);
+        compare(alloc, names, &row, came, differences)
+    } else {
+        let row = row
+            .with(Column::Status, end.1)
+            .with(Column::Line, end.2)
+            .with(Column::Made, "none");
+        let size = kept_size(&row, end.0, moved, came);
+        compare_kept(alloc, names, &row, whole, size, came, differences)
     }
-    let size = kept_size(row, end.0, moved, came);
+}
+
+/// What a cell says of a line that broke off after `calls` calls, which move a piece each.
+fn line_before(alloc: Global, line: &[u8], piece: usize, calls: usize) -> Result<String, Fail> {
+    let size = front_size(from_utf8(line)?, piece, calls);
+    match line.get(..size) {
+        Some(front) => begun_line(alloc, front),
+        None => Err("a line so long".into()),
+    }
+}
+
+/// What a cell says of a line that begins with these bytes.
+fn begun_line(alloc: Global, front: &[u8]) -> Result<String, Fail> {
+    let front = from_utf8(front)?;
+    Ok(format!(in alloc; "{front}..")?)
+}
+
+/// Compares a run that failed, of whose output `size` bytes are kept, and which drew no more random
+/// bytes than the run without faults.
+fn compare_kept(
+    alloc: Global,
+    names: &Names,
+    row: &Row<'_>,
+    whole: &Outcome,
+    size: usize,
+    came: &Outcome,
+    differences: &mut Differences,
+) -> Result<(), Fail> {
     let front = whole.output.get(..size).unwrap_or(&whole.output);
     let output = hex::encode(alloc, front)?;
     let drawn = format!(in alloc; "{}", came.drawn.min(whole.drawn))?;
-    let failed = row
-        .with(Column::Status, end.1)
-        .with(Column::Line, end.2)
+    let row = row
         .with(Column::Output, &output)
-        .with(Column::Made, "none")
         .with(Column::Drawn, &drawn);
-    compare(alloc, names, &failed, came, differences)
+    compare(alloc, names, &row, came, differences)
 }
 
 /// How many bytes of the output are kept if a call of this name failed: those of the writes before,

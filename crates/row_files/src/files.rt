@@ -9,7 +9,7 @@
 use crate::cells::bytes_of;
 use crate::differences::Differences;
 use crate::names::Names;
-use crate::rows::{PLAIN, Row};
+use crate::rows::{PLAIN, Row, place_of};
 use crate::runner::Runner;
 use crate::running::run_line;
 use std::process::Termination;
@@ -118,10 +118,12 @@ fn define(rt: &HostRuntime, names: &mut Names, line: &str) -> Result<(), Fail> {
     if is_remark(line) {
         return Ok(());
     }
-    let told = line
-        .strip_prefix("let ")
-        .ok_or("a remark, a name or a table")?;
-    let (name, cell) = told.split_once(" = ").ok_or("let NAME = CELL")?;
+    let Some(told) = line.strip_prefix("let ") else {
+        return Err("a remark, a name or a table".into());
+    };
+    let Some((name, cell)) = told.split_once(" = ") else {
+        return Err("let NAME = CELL".into());
+    };
     let bytes = bytes_of(rt.alloc(), names, cell)?;
     names.set(rt.alloc(), name, bytes)
 }
@@ -156,24 +158,39 @@ fn shared_of(above: &str) -> Result<Row<'_>, Fail> {
     let mut shared = PLAIN;
     for line in above.lines() {
         if !is_remark(line) && !line.starts_with("table ") {
-            let (name, cell) = line.split_once(':').ok_or("a cell of all rows")?;
-            shared = shared.with_named(name, cell.trim())?;
+            shared = with_shared(shared, line)?;
         }
     }
     Ok(shared)
 }
 
+/// The row with the cell of a line that all rows have.
+fn with_shared<'a>(shared: Row<'a>, line: &'a str) -> Result<Row<'a>, Fail> {
+    match line.split_once(':') {
+        Some((name, cell)) => shared.with_named(name, cell.trim()),
+        None => Err("a cell of all rows".into()),
+    }
+}
+
 /// Each column occurs once, and has a known name.
 fn hold_columns(columns: &str) -> Result<(), Fail> {
     for (place, name) in columns.split('|').enumerate() {
-        let _named = PLAIN.with_named(name.trim(), "")?;
-        for before in columns.split('|').take(place) {
-            if before.trim() == name.trim() {
-                return Err(Fail::new(format_args!("one column {name}")));
-            }
+        let _place = place_of(name.trim())?;
+        if is_before(columns, place, name.trim()) {
+            return Err(Fail::new(format_args!("one column {name}")));
         }
     }
     Ok(())
+}
+
+/// Whether one of the first `count` columns has this name.
+fn is_before(columns: &str, count: usize, name: &str) -> bool {
+    for before in columns.split('|').take(count) {
+        if before.trim() == name {
+            return true;
+        }
+    }
+    false
 }
 
 /// Runs the rows of a table, each on its line, and prints how many there are. The line of the

@@ -171,16 +171,29 @@ pub(crate) fn outcome_of<R: Runner>(
     let words = words_of(alloc, row.cell(Column::Words))?;
     let file = file_of(alloc, names, row.cell(Column::File))?;
     let other = file_of(alloc, names, row.cell(Column::Other))?;
-    let objects = Objects {
+    let objects = objects_of(alloc, names, row, file.as_deref(), other.as_deref())?;
+    runner.run(alloc, &words, objects)
+}
+
+/// The objects of a row with these bytes of the files `k` and `l`.
+fn objects_of<'a, 'r: 'a>(
+    alloc: Global,
+    names: &Names,
+    row: &Row<'r>,
+    file: Option<&'a [u8]>,
+    other: Option<&'a [u8]>,
+) -> Result<Objects<'a>, Fail> {
+    let piece = row.cell(Column::Piece).parse::<usize>()?;
+    let fails = failing(row.cell(Column::Fails))?;
+    Ok(Objects {
         managers: row.cell(Column::Managers),
-        piece: row.cell(Column::Piece).parse::<usize>()?,
-        fails: failing(row.cell(Column::Fails))?,
-        file: file.as_deref(),
-        other: other.as_deref(),
+        piece,
+        fails,
+        file,
+        other,
         input: bytes_of(alloc, names, row.cell(Column::Input))?,
         random: bytes_of(alloc, names, row.cell(Column::Random))?,
-    };
-    runner.run(alloc, &words, objects)
+    })
 }
 
 /// The words that a cell gives.
@@ -205,7 +218,9 @@ fn word_of(alloc: Global, written: &str) -> Result<String, Fail> {
 
 /// The name of the call that fails, and its number.
 fn failing(cell: &str) -> Result<(&str, u64), Fail> {
-    let (name, number) = cell.split_once(' ').ok_or("a call and its number")?;
+    let Some((name, number)) = cell.split_once(' ') else {
+        return Err("a call and its number".into());
+    };
     if CALLS.contains(&name) {
         Ok((name, number.parse::<u64>()?))
     } else {
