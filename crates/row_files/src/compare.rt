@@ -17,18 +17,40 @@ pub(crate) fn compare(
     differences: &mut Differences,
 ) -> Result<(), Fail> {
     let before = differences.count();
-    hold_status(alloc, row.cell(Column::Status), came, differences)?;
-    hold_line(alloc, names, row.cell(Column::Line), came, differences)?;
-    hold_output(alloc, names, row.cell(Column::Output), came, differences)?;
-    hold_unlike(alloc, names, row.cell(Column::Unlike), came, differences)?;
-    hold_made(alloc, names, row.cell(Column::Made), came, differences)?;
-    differences.hold_count(alloc, "drawn", row.cell(Column::Drawn), came.drawn)?;
-    hold_given(alloc, row.cell(Column::Given), came, differences)?;
+    hold_written(alloc, names, row, came, differences)?;
+    hold_moved(alloc, names, row, came, differences)?;
     if differences.count() == before {
         Ok(())
     } else {
         differences.tell_run(alloc, row, came)
     }
+}
+
+/// The status and what was written to the streams are as the row says.
+fn hold_written(
+    alloc: Global,
+    names: &Names,
+    row: &Row<'_>,
+    came: &Outcome,
+    differences: &mut Differences,
+) -> Result<(), Fail> {
+    hold_status(alloc, row.cell(Column::Status), came, differences)?;
+    hold_line(alloc, names, row.cell(Column::Line), came, differences)?;
+    hold_output(alloc, names, row.cell(Column::Output), came, differences)?;
+    hold_unlike(alloc, names, row.cell(Column::Unlike), came, differences)
+}
+
+/// The new file, the random bytes drawn and the bytes of files given are as the row says.
+fn hold_moved(
+    alloc: Global,
+    names: &Names,
+    row: &Row<'_>,
+    came: &Outcome,
+    differences: &mut Differences,
+) -> Result<(), Fail> {
+    hold_made(alloc, names, row.cell(Column::Made), came, differences)?;
+    differences.hold_count(alloc, "drawn", row.cell(Column::Drawn), came.drawn)?;
+    hold_given(alloc, row.cell(Column::Given), came, differences)
 }
 
 /// The status is as its cell says, or begins so if the cell ends with `*`.

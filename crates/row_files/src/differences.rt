@@ -100,17 +100,21 @@ impl Differences {
         row: &Row<'_>,
         came: &Outcome,
     ) -> Result<(), Fail> {
-        let each = row.cell(Column::Each);
-        let piece = row.cell(Column::Piece);
-        let fails = row.cell(Column::Fails);
-        let status = came.status.as_str();
         let output = from_there(alloc, &came.output, 0)?;
-        let told = format!(in alloc;
-            "  in the run of pieces of {piece}, failing {fails}, $ being '{each}': {status}, output {output}\n"
-        )?;
+        let told = run_text(alloc, row, came.status.as_str(), &output)?;
         self.lines.push_str(&told)?;
         Ok(())
     }
+}
+
+/// What is told of a run of this row: which one it is, and how it ended.
+fn run_text(alloc: Global, row: &Row<'_>, status: &str, output: &str) -> Result<String, Fail> {
+    let each = row.cell(Column::Each);
+    let piece = row.cell(Column::Piece);
+    let fails = row.cell(Column::Fails);
+    Ok(format!(in alloc;
+        "  in the run of pieces of {piece}, failing {fails}, $ being '{each}': {status}, output {output}\n"
+    )?)
 }
 
 /// The place of the first byte that differs, or the end of the shorter list.

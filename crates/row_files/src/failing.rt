@@ -37,9 +37,15 @@ pub(crate) fn run_each_failing<R: Runner>(
     let mut counts = String::new(alloc);
     for &end in &ENDS {
         let count = run_until_whole(alloc, runner, names, row, whole, end, differences)?;
-        counts.push_str(&format!(in alloc; " {count}")?)?;
+        push_count(alloc, &mut counts, count)?;
     }
     differences.hold_text(alloc, "calls", row.cell(Column::Calls), counts.trim())
+}
+
+/// Appends a count after a space.
+fn push_count(alloc: Global, counts: &mut String, count: usize) -> Result<(), Fail> {
+    counts.push_str(&format!(in alloc; " {count}")?)?;
+    Ok(())
 }
 
 /// Runs a row with the first call of this name failing, then the second, and so on, until a run
@@ -77,12 +83,26 @@ fn run_failing<R: Runner>(
     let fails = format!(in alloc; "{} {}", end.0, before.saturating_add(1))?;
     let row = row.with(Column::Fails, &fails);
     let came = outcome_of(alloc, runner, names, &row)?;
-    if came.faults == 0 {
-        compare(alloc, names, &row, &came, differences)?;
-    } else {
-        compare_fault(alloc, names, &row, whole, end, before, &came, differences)?;
-    }
+    compare_failing(alloc, names, &row, whole, end, before, &came, differences)?;
     Ok(came.faults)
+}
+
+/// Compares how a run ended in which a call was to fail: as the row says if none did.
+fn compare_failing(
+    alloc: Global,
+    names: &Names,
+    row: &Row<'_>,
+    whole: &Outcome,
+    end: (&str, &str, &str),
+    before: usize,
+    came: &Outcome,
+    differences: &mut Differences,
+) -> Result<(), Fail> {
+    if came.faults == 0 {
+        compare(alloc, names, row, came, differences)
+    } else {
+        compare_fault(alloc, names, row, whole, end, before, came, differences)
+    }
 }
 
 /// How many bytes of these lines `calls` calls write, which move a piece each: no call moves bytes
@@ -119,9 +139,16 @@ fn compare_fault(
     let moved = before.saturating_mul(piece);
     differences.hold_count(alloc, "count of faults", "1", came.faults as usize)?;
     if end.1.is_empty() {
-        let line = line_before(alloc, &whole.line, piece, before)?;
-        let row = row.with(Column::Line, &line);
-        compare(alloc, names, &row, came, differences)
+        compare_line(
+            alloc,
+            names,
+            row,
+            &whole.line,
+            piece,
+            before,
+            came,
+            differences,
+        )
     } else {
         let row = row
             .with(Column::Status, end.1)
@@ -130,6 +157,22 @@ fn compare_fault(
         let size = kept_size(&row, end.0, moved, came);
         compare_kept(alloc, names, &row, whole, size, came, differences)
     }
+}
+
+/// Compares a run in which the line broke off after `calls` calls, which move a piece each.
+fn compare_line(
+    alloc: Global,
+    names: &Names,
+    row: &Row<'_>,
+    whole: &[u8],
+    piece: usize,
+    calls: usize,
+    came: &Outcome,
+    differences: &mut Differences,
+) -> Result<(), Fail> {
+    let line = line_before(alloc, whole, piece, calls)?;
+    let row = row.with(Column::Line, &line);
+    compare(alloc, names, &row, came, differences)
 }
 
 /// What a cell says of a line that broke off after `calls` calls, which move a piece each.

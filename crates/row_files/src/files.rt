@@ -157,15 +157,16 @@ fn title_of(above: &str) -> Result<&str, Fail> {
 fn shared_of(above: &str) -> Result<Row<'_>, Fail> {
     let mut shared = PLAIN;
     for line in above.lines() {
-        if !is_remark(line) && !line.starts_with("table ") {
-            shared = with_shared(shared, line)?;
-        }
+        shared = with_shared(shared, line)?;
     }
     Ok(shared)
 }
 
-/// The row with the cell of a line that all rows have.
+/// The row with the cell of a line that all rows have, if the line has one.
 fn with_shared<'a>(shared: Row<'a>, line: &'a str) -> Result<Row<'a>, Fail> {
+    if is_remark(line) || line.starts_with("table ") {
+        return Ok(shared);
+    }
     match line.split_once(':') {
         Some((name, cell)) => shared.with_named(name, cell.trim()),
         None => Err("a cell of all rows".into()),

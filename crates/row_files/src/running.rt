@@ -35,34 +35,55 @@ fn cells_of(
     columns: &str,
     line: &str,
 ) -> Result<Vec<String>, Fail> {
-    let (shows, line) = line.split_once('|').ok_or("a second cell")?;
+    let Some((shows, line)) = line.split_once('|') else {
+        return Err("a second cell".into());
+    };
     if line.split('|').count() != columns.split('|').count() {
         return Err(Fail::new(format_args!("as many cells as columns: {shows}")));
     }
     if shows.trim().is_empty() {
         return Err("what it shows".into());
     }
+    let mut texts = texts_of(alloc, shared)?;
+    put(alloc, &mut texts, "shows", shows.trim())?;
+    put_all(alloc, &mut texts, columns, line)?;
+    Ok(texts)
+}
+
+/// The cells of a row.
+fn texts_of(alloc: Global, row: &Row<'_>) -> Result<Vec<String>, Fail> {
     let mut texts = Vec::new(alloc);
-    for cell in shared.cells() {
+    for cell in row.cells() {
         texts.push(String::from_str(alloc, cell)?)?;
     }
-    put(alloc, &mut texts, "shows", shows.trim())?;
-    for (name, cell) in columns.split('|').zip(line.split('|')) {
-        put(alloc, &mut texts, name.trim(), cell.trim())?;
-    }
     Ok(texts)
+}
+
+/// Puts each cell of a line into its column.
+fn put_all(alloc: Global, texts: &mut Vec<String>, columns: &str, line: &str) -> Result<(), Fail> {
+    for (name, cell) in columns.split('|').zip(line.split('|')) {
+        put(alloc, texts, name.trim(), cell.trim())?;
+    }
+    Ok(())
 }
 
 /// Puts a cell into the column of this name: in the place of each `?` of the cell that all rows
 /// share, or alone if that has no `?`.
 fn put(alloc: Global, texts: &mut Vec<String>, name: &str, cell: &str) -> Result<(), Fail> {
-    let text = texts.get_mut(place_of(name)?).ok_or("a column")?;
-    *text = if text.as_str().contains('?') {
-        text.as_str().replace(alloc, '?', cell)?
-    } else {
-        String::from_str(alloc, cell)?
+    let Some(text) = texts.get_mut(place_of(name)?) else {
+        return Err("a column".into());
     };
+    *text = text_with(alloc, text.as_str(), cell)?;
     Ok(())
+}
+
+/// The text with this cell in the place of each `?`, or the cell alone if the text has no `?`.
+fn text_with(alloc: Global, text: &str, cell: &str) -> Result<String, Fail> {
+    if text.contains('?') {
+        Ok(text.replace(alloc, '?', cell)?)
+    } else {
+        Ok(String::from_str(alloc, cell)?)
+    }
 }
 
 /// Runs the row of these cells, once for each text that replaces `$`.
@@ -93,10 +114,7 @@ fn run_value<R: Runner>(
     value: &str,
     differences: &mut Differences,
 ) -> Result<(), Fail> {
-    let mut filled = Vec::new(alloc);
-    for text in texts {
-        filled.push(text.as_str().replace(alloc, '$', value)?)?;
-    }
+    let filled = filled_with(alloc, texts, value)?;
     let row = row_of(&filled);
     run_kept(
         alloc,
@@ -105,6 +123,15 @@ fn run_value<R: Runner>(
         &row.with(Column::Each, value),
         differences,
     )
+}
+
+/// The texts with this one in the place of each `$`.
+fn filled_with(alloc: Global, texts: &[String], value: &str) -> Result<Vec<String>, Fail> {
+    let mut filled = Vec::new(alloc);
+    for text in texts {
+        filled.push(text.as_str().replace(alloc, '$', value)?)?;
+    }
+    Ok(filled)
 }
 
 /// Runs a row, and keeps its output if the row gives it a name.
@@ -138,7 +165,10 @@ fn run_row<R: Runner>(
         let row = row.with(Column::Piece, piece);
         output = Some(run_piece(alloc, runner, names, &row, differences)?);
     }
-    Ok(output.ok_or("how many bytes move at a time")?)
+    match output {
+        Some(output) => Ok(output),
+        None => Err("how many bytes move at a time".into()),
+    }
 }
 
 /// Runs a row and, if it asks for that, runs it with each call failing in turn and with its bytes
@@ -152,13 +182,28 @@ fn run_piece<R: Runner>(
 ) -> Result<Vec<u8>, Fail> {
     let came = outcome_of(alloc, runner, names, row)?;
     compare(alloc, names, row, &came, differences)?;
-    if !row.cell(Column::Calls).is_empty() {
-        run_each_failing(alloc, runner, names, row, &came, differences)?;
-    }
-    if !row.cell(Column::Changed).is_empty() {
-        run_changed(alloc, runner, names, row, differences)?;
-    }
+    run_more(alloc, runner, names, row, &came, differences)?;
     Ok(came.output)
+}
+
+/// Runs a row, whose run ended as `came`, with each call failing in turn and with its bytes changed,
+/// if the row asks for that.
+fn run_more<R: Runner>(
+    alloc: Global,
+    runner: &R,
+    names: &Names,
+    row: &Row<'_>,
+    came: &Outcome,
+    differences: &mut Differences,
+) -> Result<(), Fail> {
+    if !row.cell(Column::Calls).is_empty() {
+        run_each_failing(alloc, runner, names, row, came, differences)?;
+    }
+    if row.cell(Column::Changed).is_empty() {
+        Ok(())
+    } else {
+        run_changed(alloc, runner, names, row, differences)
+    }
 }
 
 /// Runs the row's words over its objects.
@@ -169,10 +214,21 @@ pub(crate) fn outcome_of<R: Runner>(
     row: &Row<'_>,
 ) -> Result<Outcome, Fail> {
     let words = words_of(alloc, row.cell(Column::Words))?;
+    run_words(alloc, runner, names, row, &words)
+}
+
+/// Runs these words over the objects of a row.
+fn run_words<R: Runner>(
+    alloc: Global,
+    runner: &R,
+    names: &Names,
+    row: &Row<'_>,
+    words: &[String],
+) -> Result<Outcome, Fail> {
     let file = file_of(alloc, names, row.cell(Column::File))?;
     let other = file_of(alloc, names, row.cell(Column::Other))?;
     let objects = objects_of(alloc, names, row, file.as_deref(), other.as_deref())?;
-    runner.run(alloc, &words, objects)
+    runner.run(alloc, words, objects)
 }
 
 /// The objects of a row with these bytes of the files `k` and `l`.
@@ -210,10 +266,16 @@ fn word_of(alloc: Global, written: &str) -> Result<String, Fail> {
     if written == "''" {
         return Ok(String::new(alloc));
     }
-    let (front, count) = written.split_once('*').unwrap_or((written, "0"));
-    let mut word = String::from_str(alloc, front)?;
-    word.push_str(&"0".repeat(alloc, count.parse::<usize>()?)?)?;
-    Ok(word)
+    match written.split_once('*') {
+        Some((front, count)) => word_with(alloc, front, count.parse::<usize>()?),
+        None => Ok(String::from_str(alloc, written)?),
+    }
+}
+
+/// The word that begins like this and ends with `count` digits 0.
+fn word_with(alloc: Global, front: &str, count: usize) -> Result<String, Fail> {
+    let zeros = "0".repeat(alloc, count)?;
+    Ok(format!(in alloc; "{front}{zeros}")?)
 }
 
 /// The name of the call that fails, and its number.
