@@ -3,7 +3,8 @@
 ghost use Rattle.std.specs.Prelude.{◌-◌, ◌^◌, [], None, Some, if◌then◌else◌};
 
 use crate::listed::{Listed, in_digits, in_text};
-use real_objects::{DirStore, FileEntropy, RandomDevice};
+use dir_store::DirStore;
+use real_objects::{FileEntropy, RandomDevice};
 use std::alloc::Global;
 use std::process::ExitCode;
 use std::test::Fail;

@@ -4,4 +4,3 @@ pub mod FillingSlices
 pub mod DrawnAhead
 pub mod KeptNames
 pub mod DeviceLemmas
-pub mod Copies

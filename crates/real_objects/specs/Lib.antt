@@ -1,7 +1,6 @@
 pub mod Cause
 pub mod Device
-pub mod Folder
-pub mod Named
 pub mod Naming
+pub mod Placed
 pub mod Streams
 pub mod Words

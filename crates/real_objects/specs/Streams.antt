@@ -1,9 +1,8 @@
--- What real streams and files tell: how often they have failed, whether a stream has ended, and the bytes
--- that the stream beneath tells. Files tell none.
-use Rattle.std.specs.Prelude.{◌≡◌, ℕ, List, [], Option, None, Bool, true}
+-- What real streams tell: how often they have failed, whether a stream has ended, and the bytes that the stream
+-- beneath tells.
+use Rattle.std.specs.Prelude.{◌≡◌, ℕ, List, [], Option, Bool, true}
 use Rattle.std.specs.Io.KnownBytes.{prepend_known}
 use Rattle.tink_spec.specs.Outside.{SourceState, SinkState}
-use Rattle.tink_spec.specs.Files.{StoreState}
 use Rattle.real_objects.specs.declared.streams.StdSource.{StdSource}
 use Rattle.real_objects.specs.declared.streams.StdSink.{StdSink}
 
@@ -51,7 +50,3 @@ closed_sink sink = sink.closed
 -- whether a byte was written to it
 abbrev pub has_written : {W : Type 0} → StdSink W → Bool
 has_written sink = sink.wrote
-
--- the files, with so many faults and bytes given
-abbrev pub untold_store : (faults given : ℕ) → StoreState
-untold_store faults given = record { files = None; faults = faults; given = given }

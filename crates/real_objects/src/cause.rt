@@ -71,7 +71,7 @@ impl FileError {
 
 /// Why a call failed with this error.
 #[tactic(auto, unfolding(crate::specs::Cause::kind_cause))]
-pub(crate) fn cause_of(error: &Error) -> Cause
+pub fn cause_of(error: &Error) -> Cause
     ensures { result ≡ cause_of error.now }
 {
     match error.kind() {

@@ -1,4 +1,5 @@
-//! The real objects of the program: standard streams, files, random bytes and words.
+//! The real objects of the program: standard streams, random bytes, words, and how a new file is
+//! filled and gets its name.
 //!
 //! No clause can say what the system gives and takes. So the clauses are about any stream, device,
 //! file or list of words that reports its bytes, instead of the system's, and only one call each is
@@ -9,10 +10,8 @@ mod ahead;
 mod args;
 mod beneath;
 mod cause;
-mod drafting;
 mod entropy;
-mod folder;
-mod named;
+mod filling;
 mod naming;
 mod placed;
 mod streams;
@@ -21,11 +20,9 @@ mod unread;
 pub use ahead::Device;
 pub use args::{Arguments, NoWords, words};
 pub use beneath::{ReadStream, StandardOutput, WriteStream};
-pub use cause::{Cause, FileError};
-pub use drafting::{append_piece, begin_file, finish_file, give_up_file};
+pub use cause::{Cause, FileError, cause_of};
 pub use entropy::{FileEntropy, Opens, RandomDevice};
-pub use folder::{DirStore, NewFile, fill_opened, load_opened};
-pub use named::{DirName, Temporary, folder_of};
-pub use naming::{NewName, make_file};
+pub use filling::{NewFile, OWNER_ALONE, fault_of, fill_opened, unmade};
+pub use naming::{NewName, keep_name, link_file, make_file, open_temporary};
 pub use placed::{PlacedFile, read_opened, size_of};
-pub use streams::{StdSink, StdSource};
+pub use streams::{StdSink, StdSource, write_through_signals};

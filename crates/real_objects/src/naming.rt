@@ -9,7 +9,7 @@ ghost use Rattle.real_objects.specs.Cause.{stored_answer};
 ghost use Rattle.real_objects.specs.Naming.{Stage, Free, Starved, Begun, Taken, Linkless, Linked, Opened, Place, Gone, There, Left, IsAt, HasNoLinks, IsWhole, kept_as, EndsAs};
 
 use crate::cause::{FileError, cause_of};
-use crate::folder::{NewFile, fill_file, fill_opened, unmade};
+use crate::filling::{NewFile, fill_file, fill_opened, unmade};
 use std::io::{self, ErrorKind};
 use tink_base::{Created, StoreError};
 
@@ -133,7 +133,7 @@ pub fn make_file<N: NewName>(name: &mut N, bytes: &[u8]) -> Result<Created, File
 }
 
 /// Makes a new file under a temporary name that is free.
-pub(crate) fn open_temporary<N: NewName>(name: &mut N) -> io::Result<N::File>
+pub fn open_temporary<N: NewName>(name: &mut N) -> io::Result<N::File>
     requires free { IsAt (N.stage name.old) Free }
     ensures fresh { IfOk result (λ file. Keeps N.fresh (N.File.contents file)) }
     ensures begun { OnOk result (IsAt (N.stage name.new) Begun) }
@@ -179,7 +179,7 @@ fn give_name<N: NewName>(name: &mut N, file: &N::File, bytes: &[u8]) -> Result<C
 
 /// Gives the name to a file. If linking fails but the file has the name, for instance because a
 /// server got the call twice, it counts as linked.
-pub(crate) fn link_file<N: NewName>(name: &mut N, file: &N::File) -> io::Result<()>
+pub fn link_file<N: NewName>(name: &mut N, file: &N::File) -> io::Result<()>
     requires begun { IsAt (N.stage name.old) Begun }
     requires there { N.temporary name.old ≡ There }
     ensures linked { OnOk result (IsAt (N.stage name.new)
@@ -222,7 +222,7 @@ fn fill_named<N: NewName>(name: &mut N, bytes: &[u8]) -> Result<Created, FileErr
 }
 
 /// Waits until the file's name is stored.
-pub(crate) fn keep_name<N: NewName>(name: &mut N, file: &N::File) -> Result<Created, FileError>
+pub fn keep_name<N: NewName>(name: &mut N, file: &N::File) -> Result<Created, FileError>
     ensures made { IfOk (stored_answer result) (λ made. (made ≡ Created.Made) × (N.stage name.new ≡ option_map
         (kept_as (N.File.contents file.now) (N.File.lasts file.now)) (N.stage name.old))) }
     ensures failed { IfErr (stored_answer result) (λ error. (error ≡ StoreError.Failed) ×

@@ -4,7 +4,7 @@ ghost use Rattle.std.specs.Prelude.{◌≡◌, ◌≢◌, ◌<◌, ◌≤◌, �
 ghost use Rattle.std.specs.Fs.{IsFile, file_type, metadata_len};
 ghost use Rattle.std.specs.IoError.{error_kind};
 ghost use Rattle.real_objects.specs.Cause.{cause_of};
-ghost use Rattle.real_objects.specs.Folder.{IsMissing, IsPieceAt, IsSize};
+ghost use Rattle.real_objects.specs.Placed.{IsMissing, IsPieceAt, IsSize};
 
 use crate::cause::{Cause, cause_of};
 use std::fs::{File, Metadata};

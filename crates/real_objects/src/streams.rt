@@ -294,7 +294,7 @@ pub(crate) fn read_through_signals<R: Read>(stream: &mut R, out: &mut [u8]) -> i
 }
 
 /// One write, tried again if a signal interrupted it.
-pub(crate) fn write_through_signals<W: Write>(stream: &mut W, piece: &[u8]) -> io::Result<usize>
+pub fn write_through_signals<W: Write>(stream: &mut W, piece: &[u8]) -> io::Result<usize>
     ensures bound { IfOk result (λ n. n ≤ length piece.now) }
     ensures wrote { IfOk result (λ n.
         Appends (W.contents stream.old) (W.contents stream.new) (take n piece.now)) }

@@ -13,9 +13,10 @@ use crate::not_text::report_not_text;
 use crate::progress::Watched;
 use crate::standard::start;
 use crate::terminals::{Terminals, is_kept_off, report_kept_off, report_waiting, waits};
+use dir_store::DirStore;
 use real_objects::{
-    Arguments, DirStore, FileEntropy, NoWords, RandomDevice, StandardOutput, StdSink, StdSource,
-    WriteStream, words,
+    Arguments, FileEntropy, NoWords, RandomDevice, StandardOutput, StdSink, StdSource, WriteStream,
+    words,
 };
 use std::alloc::Global;
 use std::io::{IsTerminal, Stderr};

@@ -1,7 +1,8 @@
 //! Why calls of the real store failed, over errors by their numbers and over real files.
 
 use crate::folder::opened::Page;
-use real_objects::{Cause, DirStore, FileError, fill_opened};
+use dir_store::DirStore;
+use real_objects::{Cause, FileError, fill_opened};
 use std::alloc::Global;
 use std::fs;
 use std::io::Error;

@@ -1,9 +1,10 @@
 //! Files of the file system, in the folder where the test runs.
 
 ghost use Rattle.std.specs.Prelude.{◌≡◌, ◌≢◌, None, IsSome, OnOk};
-ghost use Rattle.real_objects.specs.Folder.{drafted};
+ghost use Rattle.dir_store.specs.Folder.{drafted};
 
-use real_objects::{DirName, DirStore, NewName};
+use dir_store::{DirName, DirStore};
+use real_objects::NewName;
 use std::alloc::Global;
 use std::fs::{self, DirEntry, File};
 use std::io::{self, ErrorKind, Write};

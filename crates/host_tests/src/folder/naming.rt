@@ -7,9 +7,8 @@ ghost use Rattle.host_tests.specs.Names.{stage_of, place_of};
 use crate::folder::came::{Came, Stands};
 use crate::folder::causes::made_word;
 use crate::folder::opened::{NOT_BACK, Page};
-use real_objects::{
-    Cause, FileError, NewName, append_piece, begin_file, finish_file, give_up_file, make_file,
-};
+use dir_store::{append_piece, begin_file, finish_file, give_up_file};
+use real_objects::{Cause, FileError, NewName, make_file};
 use std::alloc::Global;
 use std::io::{self, ErrorKind};
 use std::test::Fail;

@@ -3,7 +3,8 @@
 ghost use Rattle.std.specs.Prelude.{◌≡◌, Some, true};
 
 use crate::folder::causes::{loaded_word, made_word};
-use real_objects::{NewFile, fill_opened, load_opened};
+use dir_store::load_opened;
+use real_objects::{NewFile, fill_opened};
 use std::alloc::Global;
 use std::io::{self, ErrorKind, Read, Write};
 use std::test::Fail;

@@ -2,7 +2,8 @@
 
 ghost use Rattle.std.specs.Prelude.{None};
 
-use real_objects::{Cause, DirStore, PlacedFile, read_opened};
+use dir_store::DirStore;
+use real_objects::{Cause, PlacedFile, read_opened};
 use std::cell::Cell;
 use std::fs;
 use std::io::{self, ErrorKind};

@@ -1,5 +1,5 @@
-use Rattle.real_objects.proofs.Copies.{copies_more}
-use Rattle.real_objects.proofs.drafting.copy_bytes.Goals as goal
+use Rattle.dir_store.proofs.Copies.{copies_more}
+use Rattle.dir_store.proofs.drafting.copy_bytes.Goals as goal
 
 pub loop-preserved : goal.loop-preserved
 loop-preserved g c =

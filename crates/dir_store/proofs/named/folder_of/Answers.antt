@@ -1,7 +1,7 @@
 use Rattle.std.proofs.Common.{◌≡◌, ℕ, ◌<◌, List, [], ◌∷◌, ◌++◌, length, take, drop, ap, ◌∙◌, sym, subst, refl, arith, inl, inr, take-append-drop}
 use Rattle.std.specs.Str.Pattern.{HasCharAt}
-use Rattle.real_objects.specs.Folder.{HasNoSlash, IsFolder}
-use Rattle.real_objects.proofs.named.folder_of.Goals as goal
+use Rattle.dir_store.specs.Folder.{HasNoSlash, IsFolder}
+use Rattle.dir_store.proofs.named.folder_of.Goals as goal
 
 -- a path that was split at a slash
 split_there : (path front last : List ℕ) (i j : ℕ) → HasCharAt 47 path i j → front ≡ take i path → last ≡ drop j path → path ≡ front ++ 47 ∷ last

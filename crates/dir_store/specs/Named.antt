@@ -1,8 +1,8 @@
 -- The path of a new file: where the file stands that was made under a temporary name.
 use Rattle.std.specs.Prelude.{ℕ, List, Option, Some, None, string_bytes}
 use Rattle.real_objects.specs.Naming.{Place, Gone, There, Left}
-use Rattle.real_objects.specs.declared.named.Temporary.{Temporary}
-use Rattle.real_objects.specs.declared.named.Temporary.TheVariants as temporary
+use Rattle.dir_store.specs.declared.named.Temporary.{Temporary}
+use Rattle.dir_store.specs.declared.named.Temporary.TheVariants as temporary
 
 -- where it stands, by what is kept of it
 abbrev pub place_of : Temporary → Place

@@ -9,10 +9,10 @@ ghost use Rattle.std.specs.IoError.{error_kind};
 ghost use Rattle.real_objects.specs.Cause.{cause_of, stored_answer};
 ghost use Rattle.real_objects.specs.Naming.{Free, Starved, Begun, Taken, Linkless, Place, There, IsAt, IsWhole, Lasts, BeginsAs, CopiesTo, EndsAs};
 
-use crate::cause::{Cause, FileError, cause_of};
-use crate::folder::{NewFile, unmade};
-use crate::naming::{NewName, keep_name, link_file, open_temporary};
-use crate::streams::write_through_signals;
+use real_objects::{
+    Cause, FileError, NewFile, NewName, cause_of, keep_name, link_file, open_temporary, unmade,
+    write_through_signals,
+};
 use std::io::{self, ErrorKind, Write};
 use tink_base::Created;
 

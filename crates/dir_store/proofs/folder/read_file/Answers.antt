@@ -1,6 +1,6 @@
 use Rattle.std.proofs.Common.{refl}
-use Rattle.real_objects.proofs.KnownBytes.{loaded_whole}
-use Rattle.real_objects.proofs.folder.read_file.Goals as goal
+use Rattle.dir_store.proofs.LoadedBytes.{loaded_whole}
+use Rattle.dir_store.proofs.folder.read_file.Goals as goal
 
 pub returns-clause-whole : goal.returns-clause-whole
 returns-clause-whole g c =

@@ -1,6 +1,7 @@
 //! The files of the file system as a store, which doesn't report its files; the contracts of the
-//! functions that read and fill one file are about the file's bytes, if it reports them. How a new
-//! file gets its name is in `naming`, and reading at an offset in `placed`.
+//! functions that read one file are about the file's bytes, if it reports them. How a new file is
+//! filled and gets its name is in `filling` and `naming` of real_objects, and reading at an offset
+//! in its `placed`.
 
 ghost use Rattle.std.specs.Prelude.{◌≡◌, ◌≢◌, ◌^◌, ◌<◌, ◌≤◌, Bool, Option, Some, true, false, None, [], length, take, drop, min, IfOk, IfErr, IsOk, IsErr, IsOkAnd, IsErrOf, IsSome, IfSome, OnOk, option_map};
 ghost use Rattle.std.specs.Io.KnownBytes.{Appends, Keeps};
@@ -9,26 +10,19 @@ ghost use Rattle.tink_base.specs.Store.{GivenByLoad, Loads};
 ghost use Rattle.tink_spec.specs.Outside.{Rose, RoseOnce, Stood};
 ghost use Rattle.tink_spec.specs.Files.{KeptFiles};
 ghost use Rattle.real_objects.specs.Cause.{cause_of, stored_answer, stored_error};
-ghost use Rattle.real_objects.specs.Folder.{IsLoaded, IsMissing, drafted, fault_count, kept_cause, kept_path, last_cause, last_path, told_files};
-ghost use Rattle.real_objects.specs.Naming.{Lasts};
-ghost use Rattle.real_objects.specs.Streams.{untold_store};
+ghost use Rattle.dir_store.specs.Folder.{IsLoaded, drafted, fault_count, kept_cause, kept_path, last_cause, last_path, told_files, untold_store};
+ghost use Rattle.real_objects.specs.Placed.{IsMissing};
 
-use crate::cause::{Cause, FileError, cause_of};
 use crate::drafting::{append_piece, begin_file, finish_file, give_up_file};
 use crate::named::{DirName, free_place};
-use crate::naming::make_file;
-use crate::placed::{placed_through_signals, read_opened, size_of};
+use real_objects::{Cause, FileError, cause_of, fault_of, make_file, read_opened, size_of};
 use std::alloc::Global;
-use std::fs::{self, File, OpenFile, Permissions};
-use std::io::{self, ErrorKind, Read, Write};
-use std::os::unix::fs::{MetadataExt, PermissionsExt};
+use std::fs::{self, File, OpenFile};
+use std::io::{self, ErrorKind, Read};
 use tink_base::{Begun, Bytes, Created, Failed, Loaded, PieceStore, Store, StoreError};
 
 /// The most bytes that a load returns; longer files count as too long under any limit.
 const MOST: usize = 1 << 30;
-
-/// The permissions of a new file: its owner may read and write it, and nobody else.
-pub(crate) const OWNER_ALONE: u32 = 0o600;
 
 /// The files that the program can reach, by their paths.
 #[derive(Drop)]
@@ -421,118 +415,4 @@ fn loaded_of(read: io::Result<usize>, bytes: Vec<u8>, limit: usize) -> Result<Lo
         Ok(_) => Ok(Loaded::Bytes(Bytes::own(bytes))),
         Err(error) => Err(fault_of(&error)),
     }
-}
-
-/// What a failed call is reported as: `NoMemory` if and only if the system says so.
-fn fault_of(error: &io::Error) -> FileError
-    ensures memory { error_kind error.now ≡ ErrorKind.OutOfMemory → result ≡ FileError.NoMemory }
-    ensures fault { error_kind error.now ≢ ErrorKind.OutOfMemory →
-        result ≡ FileError.Failed (cause_of error.now) }
-{
-    match error.kind() {
-        ErrorKind::OutOfMemory => FileError::NoMemory,
-        _ => FileError::Failed(cause_of(error)),
-    }
-}
-
-/// A new file.
-pub trait NewFile: Write {
-    /// Whether what was written lasts, if that is known.
-    ghost lasts: { Self → Option Bool };
-
-    /// Lets its owner read and write it, if the process's umask has removed that right.
-    fn admit_owner(&mut self) -> io::Result<()>
-        ensures kept { Keeps (Self.contents self.old) (Self.contents self.new) };
-
-    /// Waits until the system has stored what was written.
-    fn put_away(&mut self) -> io::Result<()>
-        ensures lasts { OnOk result (Lasts (lasts self.new)) }
-        ensures kept { Keeps (Self.contents self.old) (Self.contents self.new) };
-
-    /// Reads bytes that were written, from offset `at` on, at most as many as `out` has: none only
-    /// at the end.
-    fn read_back(&self, at: u64, out: &mut [u8]) -> io::Result<usize>
-        ensures bound { IfOk result (λ n. n ≤ length out.new) }
-        ensures reads { IfOk result (λ n. IfSome (Self.contents self.now) (λ all.
-            take n out.new ≡ take n (drop at all))) }
-        ensures end { IfOk result (λ n. n ≡ 0 → 0 < length out.old →
-            IfSome (Self.contents self.now) (λ all. length all ≤ at)) };
-}
-
-impl NewFile for File {
-    ghost lasts = { λ _. None };
-
-    /// A file system without such rights reports its own, and isn't asked for any.
-    fn admit_owner(&mut self) -> io::Result<()> {
-        if self.metadata()?.mode() & OWNER_ALONE == OWNER_ALONE {
-            return Ok(());
-        }
-        self.set_permissions(Permissions::from_mode(OWNER_ALONE))
-    }
-
-    fn put_away(&mut self) -> io::Result<()> {
-        self.sync_all()
-    }
-
-    fn read_back(&self, at: u64, out: &mut [u8]) -> io::Result<usize> {
-        placed_through_signals(self, at, out)
-    }
-}
-
-/// Fills the opened new file with all the bytes, and waits until they last.
-pub fn fill_opened<F: NewFile>(
-    opened: &mut io::Result<F>,
-    bytes: &[u8],
-) -> Result<Created, FileError>
-    ensures made { IfOk opened.old (λ file. IfOk result (λ made. (made ≡ Created.Made) ×
-        IsOkAnd opened.new (λ filled. Lasts (F.lasts filled) ×
-        Appends (F.contents file) (F.contents filled) bytes.now))) }
-    ensures exists { IfErr opened.old (λ error. IfOk result (λ made. (made ≡ Created.Exists) ×
-        (error_kind error ≡ ErrorKind.AlreadyExists))) }
-    ensures taken { IfErr opened.old (λ error. error_kind error ≡ ErrorKind.AlreadyExists →
-        result ≡ Ok Created.Exists) }
-    ensures no_memory { IfErr opened.old (λ error. IsErrOf result FileError.NoMemory →
-        error_kind error ≡ ErrorKind.OutOfMemory) }
-    ensures starved { IfErr opened.old (λ error. error_kind error ≡ ErrorKind.OutOfMemory →
-        result ≡ Err FileError.NoMemory) }
-    ensures failed { IfErr opened.old (λ error. (cause : Cause) →
-        IsErrOf result (FileError.Failed cause) → cause ≡ cause_of error) }
-    ensures unfilled { IsOk opened.old →
-        IfErr result (λ error. stored_error error ≡ StoreError.Failed) }
-    ensures unopened { IfErr opened.old (λ error. opened.new ≡ Err error) }
-{
-    match opened {
-        Ok(file) => match fill_file(file, bytes) {
-            Ok(()) => Ok(Created::Made),
-            Err(error) => Err(FileError::Failed(cause_of(&error))),
-        },
-        Err(error) => unmade(error),
-    }
-}
-
-/// What a file that couldn't be made is reported as, by the error.
-pub(crate) fn unmade(error: &io::Error) -> Result<Created, FileError>
-    ensures taken { error_kind error.now ≡ ErrorKind.AlreadyExists → result ≡ Ok Created.Exists }
-    ensures no_memory { error_kind error.now ≡ ErrorKind.OutOfMemory →
-        result ≡ Err FileError.NoMemory }
-    ensures failed { error_kind error.now ≢ ErrorKind.AlreadyExists →
-        error_kind error.now ≢ ErrorKind.OutOfMemory →
-        result ≡ Err (FileError.Failed (cause_of error.now)) }
-{
-    match error.kind() {
-        ErrorKind::AlreadyExists => Ok(Created::Exists),
-        _ => Err(fault_of(error)),
-    }
-}
-
-/// Lets the owner read and write the file, writes all the bytes, flushes them, and waits until they
-/// last.
-pub(crate) fn fill_file<F: NewFile>(file: &mut F, bytes: &[u8]) -> io::Result<()>
-    ensures { OnOk result (Lasts (F.lasts file.new) ×
-        Appends (F.contents file.old) (F.contents file.new) bytes.now) }
-{
-    file.admit_owner()?;
-    file.write_all(bytes)?;
-    file.flush()?;
-    file.put_away()
 }

@@ -1,18 +1,13 @@
 -- What is found of a file, and the folder of a path.
-use Rattle.std.specs.Prelude.{◌≡◌, ◌⊎◌, ◌<◌, ◌≤◌, ℕ, ◌==◌, List, ◌∷◌, ◌++◌, length, take, drop, Option, Some, None, IfSome, option_map, string_bytes}
+use Rattle.std.specs.Prelude.{◌≡◌, ◌⊎◌, ◌<◌, ◌≤◌, ℕ, ◌==◌, List, ◌∷◌, ◌++◌, length, Option, Some, None, option_map, string_bytes}
 use Rattle.std.specs.Str.{NoCharPasses}
 use Rattle.std.specs.Path.{slash, root_dir, cur_dir}
-use Rattle.std.specs.Fs.{IsFile, file_type, metadata_len}
-use Rattle.std.specs.declared.fs.attrs.Metadata.{Metadata}
-use Rattle.std.specs.declared.io.ErrorKind.{ErrorKind}
-use Rattle.std.specs.declared.io.ErrorKind.TheVariants as kind
 use Rattle.real_objects.specs.declared.cause.Cause.{Cause}
 use Rattle.real_objects.specs.declared.cause.FileError.{FileError}
 use Rattle.real_objects.specs.declared.cause.FileError.TheVariants as error
-use Rattle.real_objects.specs.declared.folder.DirStore.{DirStore}
-use Rattle.real_objects.specs.declared.named.Temporary.{Temporary}
-use Rattle.real_objects.specs.Named.{left_path}
-use Rattle.real_objects.specs.Streams.{untold_store}
+use Rattle.dir_store.specs.declared.folder.DirStore.{DirStore}
+use Rattle.dir_store.specs.declared.named.Temporary.{Temporary}
+use Rattle.dir_store.specs.Named.{left_path}
 use Rattle.tink_spec.specs.Files.{StoreState}
 use Rattle.tink_base.specs.Pieces.{Draft}
 use Rattle.tink_base.specs.declared.store.Loaded.{Loaded}
@@ -30,6 +25,10 @@ kept_cause files = option_map (λ faults. faults.last) files.faults
 abbrev pub last_cause : Option Cause → FileError → Option Cause
 last_cause kept (error.Failed cause) = Some cause
 last_cause kept error.NoMemory = kept
+
+-- the files, with so many faults and bytes given
+abbrev pub untold_store : (faults given : ℕ) → StoreState
+untold_store faults given = record { files = None; faults = faults; given = given }
 
 -- the files, of which their counts alone are told
 abbrev pub told_files : DirStore → StoreState
@@ -52,20 +51,6 @@ abbrev pub IsLoaded : List ℕ → ℕ → Loaded → Type 0
 IsLoaded bytes limit loaded.Absent = ⊥
 IsLoaded bytes limit loaded.TooLong = limit < length bytes
 IsLoaded bytes limit (loaded.Bytes all) = (all ≡ bytes) × (length bytes ≤ limit)
-
--- what was found of a file: its length, or that there is none
-abbrev pub IsSize : Metadata → Option ℕ → Type 0
-IsSize found None = ⊥
-IsSize found (Some size) = (size ≡ metadata_len found) × IsFile (file_type found)
-
--- there is no file of a name, by the kind of the error of what looked for it
-abbrev pub IsMissing : ErrorKind → Type 0
-IsMissing k = (k ≡ kind.NotFound) ⊎ (k ≡ kind.NotADirectory)
-
--- so many bytes were read of a file, where it tells: at least one, from that place on
-abbrev pub IsPieceAt : Option (List ℕ) → (at : ℕ) → (out : List ℕ) → ℕ → Type 0
-IsPieceAt bytes at out n =
-    (1 ≤ n) × (n ≤ length out) × IfSome bytes (λ all. take n out ≡ take n (drop at all))
 
 -- no character of a text is a slash
 abbrev pub HasNoSlash : List ℕ → Type 0

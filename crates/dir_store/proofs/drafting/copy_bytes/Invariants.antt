@@ -1,6 +1,6 @@
 use Rattle.std.proofs.Common.{IfSome, take}
 use Rattle.std.specs.Io.KnownBytes.{Appends}
-use Rattle.real_objects.proofs.drafting.copy_bytes.Given as goal
+use Rattle.dir_store.proofs.drafting.copy_bytes.Given as goal
 
 -- the first bytes were copied
 abbrev pub invariant-loop : goal.invariant-loop

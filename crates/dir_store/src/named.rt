@@ -3,13 +3,11 @@
 
 ghost use Rattle.std.specs.Prelude.{◌≡◌, ◌≢◌, Option, Some, None, IfOk, IfErr, IsOk, IsErr, OnOk, OnErr, option_map, string_bytes};
 ghost use Rattle.std.specs.IoError.{error_kind};
-ghost use Rattle.real_objects.specs.Folder.{IsFolder};
-ghost use Rattle.real_objects.specs.Named.{left_path, place_of, there_path};
+ghost use Rattle.dir_store.specs.Folder.{IsFolder};
+ghost use Rattle.dir_store.specs.Named.{left_path, place_of, there_path};
 ghost use Rattle.real_objects.specs.Naming.{Stage, There, Gone, Left};
 
-use crate::entropy::{Opens, RandomDevice};
-use crate::folder::OWNER_ALONE;
-use crate::naming::NewName;
+use real_objects::{NewName, OWNER_ALONE, Opens, RandomDevice};
 use std::alloc::Global;
 use std::fs::{self, File, Metadata, OpenFile, OpenOptions};
 use std::io::{self, ErrorKind, Read};
@@ -118,7 +116,7 @@ impl<'a> DirName<'a> {
 }
 
 impl NewName for DirName<'_> {
-    ghost use Rattle.real_objects.specs.Named.{place_of};
+    ghost use Rattle.dir_store.specs.Named.{place_of};
 
     type File = File;
 
