@@ -11,21 +11,15 @@ ghost use Rattle.tinkey_plans.specs.Status.{Reports};
 ghost use Rattle.tinkey_plans.specs.Steps.{Finishes};
 ghost use Rattle.tinkey_words.specs.Words.{seen_command};
 
-use crate::converting::convert_keyset;
-use crate::edits::{create_keyset, edit_keyset};
-use crate::enveloping::use_envelope;
-use crate::key_of::tell_keys;
-use crate::list::list_keyset;
-use crate::output::{finish_output, shown, write_output};
-use crate::ranging::open_file_range;
-use crate::self_testing::tell_self_test;
-use crate::session::answer_lines;
-use crate::streaming::{load_stream_keys, put_stream};
-use crate::templates::list_templates;
-use crate::using::use_keyset;
+use crate::finishing::{finish_output, shown};
 use managers::{KeyTable, Managers};
 use std::alloc::Global;
 use tink_base::{Lookahead, PieceStore, Sink, Source};
+use tinkey_actions::{
+    answer_lines, convert_keyset, create_keyset, edit_keyset, list_keyset, list_templates,
+    load_stream_keys, open_file_range, put_stream, tell_keys, tell_self_test, use_envelope,
+    use_keyset, write_output,
+};
 use tinkey_plans::{Status, help_text, mention_of, report, version_text};
 use tinkey_readable::laws::sessions_are_readable;
 use tinkey_words::{Misuse, Request, parse};

@@ -9,7 +9,7 @@ use Rattle.tinkey_plans.specs.SelfTesting.{self_test_output}
 use Rattle.tinkey_plans.specs.Streaming.{begins_file, loads_stream_keys, passes_stream}
 use Rattle.tinkey_plans.specs.Using.{shows, use_output}
 use Rattle.tinkey_words.specs.Words.{seen_datum, seen_envelope, seen_lock, seen_name, seen_place, seen_range, seen_work}
-use Rattle.tinkey_run.proofs.LockLemmas.{finished_there, finishes_then}
+use Rattle.tinkey_actions.proofs.LockLemmas.{finished_there, finishes_then}
 use Rattle.tinkey_run.proofs.top.dispatch.Goals as goal
 
 pub returns-in-CreateKeyset : goal.returns-in-CreateKeyset

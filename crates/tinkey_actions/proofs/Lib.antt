@@ -1,0 +1,15 @@
+pub mod EnvelopeLemmas
+pub mod GivenLemmas
+pub mod KeyOfLemmas
+pub mod KeysetLemmas
+pub mod LockLemmas
+pub mod RangingLemmas
+pub mod SealerLemmas
+pub mod SelfTestLemmas
+pub mod StreamFileLemmas
+pub mod StreamKeyLemmas
+pub mod StreamLemmas
+pub mod TemplateLemmas
+pub mod UseLemmas
+pub mod WrapLemmas
+pub mod WrittenLemmas

@@ -1,5 +1,0 @@
-use Rattle.std.proofs.Common.{◌∙◌}
-use Rattle.tinkey_run.proofs.using.seal.Goals as goal
-
-pub returns : goal.returns
-returns g c = λ w keys over. rw (c.as_slice.ensures ∙ c.in_ok-ad.ensures.bytes) at (c.seal_plain.ensures w keys over)
