@@ -19,7 +19,7 @@ use Rattle.random_draws.proofs.StepFacts.{HasNewKey, HasThree}
 use Rattle.random_draws.proofs.StepLemmas.{envelopes_are_drawn}
 use Rattle.random_draws.specs.Slices.{DataKey, Fill, Header, Id, Iv, Key, edit_fills, fill_of, iv_fills, placed, total, unless_there}
 use Rattle.random_draws.specs.Steps.{EditMakesOf, IsEnvelopeOf, IsHeaderOf, IsNewOf, IsSealedOf, IsStep, MakesOf, Step, behind_key_fills, creation, edition, envelope_fills, enveloping, heading, sealing, step_fills, wrapping}
-use Rattle.seal_wrap.specs.Enveloped.{data_key_of, envelope, envelope_of}
+use Rattle.envelopes.specs.Enveloped.{data_key_of, envelope, envelope_of}
 use Rattle.seal_wrap.specs.Info.{info_of}
 use Rattle.seal_wrap.specs.Wrapped.{wrap_of, wrapped_text, wrapped_with}
 use Rattle.tinkey_cmds.specs.Draws.{Draw, Drawn, fill}

@@ -6,7 +6,7 @@ use Rattle.keyset_model.specs.Keyset.{Keys}
 use Rattle.managers.specs.Table.{Table, scheme_at}
 use Rattle.random_draws.specs.Runs.{IsSaving}
 use Rattle.random_draws.specs.Steps.{IsStep, Step, creation, edition, enveloping, heading, sealing, wrapping}
-use Rattle.seal_wrap.specs.Enveloping.{url_made}
+use Rattle.envelopes.specs.Enveloping.{url_made}
 use Rattle.segment_stream.specs.KeysModel.{KeysForStreams}
 use Rattle.segment_stream.specs.Pumping.{Part}
 use Rattle.segment_stream.specs.StreamKeys as streams

@@ -9,7 +9,7 @@ use Rattle.managers.specs.Schemes.{Scheme, key_under}
 use Rattle.managers.specs.Table.{Table}
 use Rattle.managers.specs.Uses.{iv_size, seal_of}
 use Rattle.random_draws.specs.Slices.{Fill, Id, Key, edit_fills, fill_of, new_fills, total}
-use Rattle.seal_wrap.specs.Enveloped.{data_key_of, envelope}
+use Rattle.envelopes.specs.Enveloped.{data_key_of, envelope}
 use Rattle.tinkey_cmds.specs.Draws.{Draw}
 use Rattle.tinkey_cmds.specs.Edits.{Edit, Stepped, alone, first, id_of, record_of, step}
 use Rattle.tinkey_cmds.specs.declared.command.EditRefusal.{EditRefusal}

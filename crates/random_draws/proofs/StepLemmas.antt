@@ -11,7 +11,7 @@ use Rattle.keyset_model.specs.Keyset.{Keys}
 use Rattle.managers.specs.Schemes.{Scheme, key_under}
 use Rattle.managers.specs.Table.{Table}
 use Rattle.managers.specs.Uses.{iv_size, seal_of}
-use Rattle.seal_wrap.specs.Enveloped.{Enveloped, behind_data_key, data_key_of, envelope, envelope_of, under_data_key}
+use Rattle.envelopes.specs.Enveloped.{Enveloped, behind_data_key, data_key_of, envelope, envelope_of, under_data_key}
 use Rattle.seal_wrap.specs.Info.{info_of}
 use Rattle.seal_wrap.specs.Wrapped.{Wrapped, wrap_of, wrapped_with}
 use Rattle.keyset_model.specs.Writing.{binary_of}

@@ -16,7 +16,7 @@ use Rattle.managers.specs.Schemes.{Scheme, key_under}
 use Rattle.managers.specs.Table.{Table}
 use Rattle.managers.specs.Uses.{iv_size, seal_of}
 use Rattle.random_draws.specs.Slices.{DataKey, Fill, Header, Id, Iv, Key, Slice, bytes_of, edit_fills, fill_of, iv_fills, new_fills}
-use Rattle.seal_wrap.specs.Enveloped.{data_key_of, envelope}
+use Rattle.envelopes.specs.Enveloped.{data_key_of, envelope}
 use Rattle.seal_wrap.specs.Info.{info_of}
 use Rattle.seal_wrap.specs.Wrapped.{wrapped_text}
 use Rattle.tinkey_cmds.specs.Draws.{Draw, fill}

@@ -1,10 +1,6 @@
 pub mod BackLemmas
-pub mod DataKeyLemmas
-pub mod EnvelopeBackLemmas
-pub mod EnvelopeLemmas
 pub mod FieldLemmas
 pub mod JsonLemmas
-pub mod OpenedInPlace
 pub mod OpenedSizes
 pub mod SealedBytes
 pub mod SealedSizes

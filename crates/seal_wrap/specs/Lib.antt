@@ -1,7 +1,3 @@
-pub mod EnvelopeLaws
-pub mod EnvelopeSteps
-pub mod Enveloped
-pub mod Enveloping
 pub mod Info
 pub mod Laws
 pub mod Sealings

@@ -16,10 +16,10 @@ use Rattle.keyset_model.specs.declared.record.Record.{Record}
 use Rattle.managers.specs.Schemes.{Scheme, key_under}
 use Rattle.managers.specs.Table.{Table}
 use Rattle.managers.specs.Uses.{iv_size, seal_of}
-use Rattle.seal_wrap.specs.Enveloped.{Enveloped, Parts, behind_data_key, data_key_of, envelope, envelope_of, under_data_key}
-use Rattle.seal_wrap.specs.EnvelopeSteps.{IsResealing}
-use Rattle.seal_wrap.specs.Enveloping.{Asks, FailedAtFill, IsEnveloping, MakesDataKey, RefusedKey, StoodAtFill}
-use Rattle.seal_wrap.proofs.EnvelopeLemmas.{envelope-drawn}
+use Rattle.envelopes.specs.Enveloped.{Enveloped, Parts, behind_data_key, data_key_of, envelope, envelope_of, under_data_key}
+use Rattle.envelopes.specs.EnvelopeSteps.{IsResealing}
+use Rattle.envelopes.specs.Enveloping.{Asks, FailedAtFill, IsEnveloping, MakesDataKey, RefusedKey, StoodAtFill}
+use Rattle.envelopes.proofs.EnvelopeLemmas.{envelope-drawn}
 use Rattle.tink_spec.specs.Outside.{EntropyState, Drew, Stood}
 use Rattle.tinkey_cmds.specs.Draws.{Draw}
 use Rattle.tinkey_cmds.specs.declared.command.EditRefusal.{EditRefusal}

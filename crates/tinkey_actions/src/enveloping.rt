@@ -4,7 +4,7 @@ ghost use Rattle.std.specs.Prelude.{◌≡◌, ◌+◌, ◌≤◌, ◌^◌, drop
 ghost use Rattle.key_msgs.specs.Templates.{Row, seen};
 ghost use Rattle.key_msgs.specs.declared.primitive.Primitive.TheVariants.{Aead};
 ghost use Rattle.keyset_model.specs.Keyset.{Keys};
-ghost use Rattle.seal_wrap.specs.Enveloping.{IsAead, url_made};
+ghost use Rattle.envelopes.specs.Enveloping.{IsAead, url_made};
 ghost use Rattle.wrapped_prims.specs.Making.{IsOver};
 ghost use Rattle.tinkey_plans.specs.Ends.{World};
 ghost use Rattle.tinkey_plans.specs.Sealers.{envelope_sealer_of};
@@ -18,13 +18,13 @@ use crate::locks::load_locked;
 use crate::sealers::envelope_sealer_of;
 use crate::steps::read_input_behind;
 use crate::using::{INPUT_LIMIT, SEALED_LIMIT, datum, handle_of, or_failed};
-use key_msgs::{Primitive, Template};
-use keyset_model::Keyset;
-use managers::{AeadManager, FoundAead, KeyManager, KeyTable, Managers};
-use seal_wrap::{
+use envelopes::{
     ENVELOPE_ROOM, EnvelopeFault, data_key, envelope_key, envelope_open, envelope_reseal,
     envelope_seal,
 };
+use key_msgs::{Primitive, Template};
+use keyset_model::Keyset;
+use managers::{AeadManager, FoundAead, KeyManager, KeyTable, Managers};
 use std::alloc::Global;
 use tink_base::{Bytes, Entropy, Source, Store};
 use tinkey_plans::{Origin, Sealer, Status, Unopened};

@@ -40,7 +40,7 @@ use Rattle.key_msgs.specs.declared.primitive.Primitive.{Primitive}
 use Rattle.key_msgs.specs.declared.primitive.Primitive.TheVariants.{Aead, Daead, Mac, Prf, Stream}
 use Rattle.key_msgs.specs.declared.rule.Rule.{Rule}
 use Rattle.managers.specs.Schemes.{Scheme}
-use Rattle.seal_wrap.specs.Enveloped.{Parts, envelope, open_envelope_of, parts_in}
+use Rattle.envelopes.specs.Enveloped.{Parts, envelope, open_envelope_of, parts_in}
 use Rattle.segment_stream.specs.Range.{stream_failed, past_end}
 use Rattle.tinkey_plans.specs.KeyOf.{with_lines}
 use Rattle.tinkey_plans.specs.Ranging.{with_range}

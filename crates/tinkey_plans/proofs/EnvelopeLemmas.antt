@@ -18,9 +18,9 @@ use Rattle.keyset_model.specs.Reading.{Refusal, Wire, Fault, reads_binary}
 use Rattle.managers.specs.Schemes.{Scheme}
 use Rattle.managers.specs.Standard.{standard_table}
 use Rattle.managers.specs.Table.{scheme_at}
-use Rattle.seal_wrap.specs.EnvelopeLaws.{DataKeysAreServed, DataKeysAreValid, IsDataKeyRow}
-use Rattle.seal_wrap.specs.Enveloped.{Enveloped, Parts, behind_data_key, data_key_of, envelope, envelope_of, open_envelope_of, parts_in, under_data_key}
-use Rattle.seal_wrap.specs.Enveloping.{url_made}
+use Rattle.envelopes.specs.EnvelopeLaws.{DataKeysAreServed, DataKeysAreValid, IsDataKeyRow}
+use Rattle.envelopes.specs.Enveloped.{Enveloped, Parts, behind_data_key, data_key_of, envelope, envelope_of, open_envelope_of, parts_in, under_data_key}
+use Rattle.envelopes.specs.Enveloping.{url_made}
 use Rattle.seal_wrap.specs.Unwrapped as unwrapped
 use Rattle.seal_wrap.specs.Unwrapped.{is_wrapped_binary, is_wrapped_json, unwrap_of}
 use Rattle.tinkey_cmds.specs.Draws.{Drawn}

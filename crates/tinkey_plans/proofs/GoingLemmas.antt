@@ -7,7 +7,7 @@ use Rattle.key_msgs.specs.Templates.{row_named}
 use Rattle.key_msgs.specs.declared.primitive.Primitive.TheVariants.{Aead}
 use Rattle.keyset_model.specs.Keyset.{Keys}
 use Rattle.managers.specs.Table.{Table, scheme_at}
-use Rattle.seal_wrap.specs.Enveloping.{url_made}
+use Rattle.envelopes.specs.Enveloping.{url_made}
 use Rattle.segment_stream.specs.Opening.{StreamRefusal, too_many, failed}
 use Rattle.segment_stream.specs.Pumping.{Part}
 use Rattle.segment_stream.specs.KeysModel.{KeysForStreams}

@@ -17,7 +17,7 @@ use Rattle.keyset_model.specs.declared.record.Record.{Record}
 use Rattle.managers.specs.Schemes.{Scheme, key_under}
 use Rattle.managers.specs.Table.{Table}
 use Rattle.managers.specs.Uses.{dseal_of, iv_size, seal_of, tag_of, tagged}
-use Rattle.seal_wrap.specs.Enveloped.{Enveloped, behind_data_key, data_key_of, envelope, envelope_of, under_data_key}
+use Rattle.envelopes.specs.Enveloped.{Enveloped, behind_data_key, data_key_of, envelope, envelope_of, under_data_key}
 use Rattle.tinkey_cmds.proofs.Among.{Among, contains-among}
 use Rattle.tinkey_plans.specs.KeyOf.{front_of, key_of_answer, key_of_lines}
 use Rattle.tinkey_plans.specs.Sealers.{may_have_made, named, raw_count, stands_under}

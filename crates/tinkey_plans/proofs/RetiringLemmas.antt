@@ -12,7 +12,7 @@ use Rattle.keyset_model.specs.Keyset.{Keys, first_some, has_id, is_enabled}
 use Rattle.keyset_model.specs.declared.record.Record.{Record}
 use Rattle.key_msgs.specs.declared.primitive.Primitive.TheVariants.{Aead, Daead}
 use Rattle.managers.specs.Schemes.{key_under}
-use Rattle.seal_wrap.specs.Enveloped.{open_behind, open_payload}
+use Rattle.envelopes.specs.Enveloped.{open_behind, open_payload}
 use Rattle.tinkey_cmds.proofs.Among.{Among, contains-among}
 use Rattle.tinkey_cmds.proofs.Cases.{Seven, edit_case, yielded}
 use Rattle.tinkey_cmds.specs.Edits.{Edit, changed, destroyed, step, with_status, without}

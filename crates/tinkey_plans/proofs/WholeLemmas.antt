@@ -7,7 +7,7 @@ use Rattle.tinkey_cmds.specs.Draws.{Draw}
 use Rattle.tinkey_cmds.specs.Edits.{first, step}
 use Rattle.tinkey_cmds.specs.declared.command.EditRefusal.{EditRefusal}
 use Rattle.managers.specs.Table.{Table, scheme_at}
-use Rattle.seal_wrap.specs.Enveloping.{url_made}
+use Rattle.envelopes.specs.Enveloping.{url_made}
 use Rattle.wrapped_prims.specs.Fitness.{unfit}
 use Rattle.tinkey_words.specs.declared.words.rows.SealedForm.{SealedForm}
 use Rattle.tinkey_words.specs.declared.words.rows.SealedForm.TheVariants as sealed

@@ -10,8 +10,8 @@ use Rattle.key_msgs.specs.declared.rule.Rule.{Rule}
 use Rattle.keyset_model.specs.Keyset.{Keys}
 use Rattle.managers.specs.Schemes.{Scheme}
 use Rattle.managers.specs.Table.{Table, scheme_at}
-use Rattle.seal_wrap.specs.Enveloped.{Enveloped, Parts, envelope, envelope_of, open_envelope_of, parts_in}
-use Rattle.seal_wrap.specs.Enveloping.{url_made}
+use Rattle.envelopes.specs.Enveloped.{Enveloped, Parts, envelope, envelope_of, open_envelope_of, parts_in}
+use Rattle.envelopes.specs.Enveloping.{url_made}
 use Rattle.tinkey_cmds.specs.Draws.{Draw, Drawn}
 use Rattle.tinkey_plans.specs.declared.origin.Origin.TheVariants as origins
 use Rattle.tinkey_plans.specs.declared.status.Status.TheVariants as status

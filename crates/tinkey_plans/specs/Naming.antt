@@ -13,7 +13,7 @@ use Rattle.keyset_model.specs.Keyset.{Keys, is_enabled, primary_of}
 use Rattle.keyset_model.specs.declared.record.Record.{Record}
 use Rattle.managers.specs.Schemes.{Scheme}
 use Rattle.managers.specs.Table.{Table}
-use Rattle.seal_wrap.specs.Enveloped.{envelope_of}
+use Rattle.envelopes.specs.Enveloped.{envelope_of}
 use Rattle.segment_stream.specs.Opening.{choose, chosen, decides, failed, no_key}
 use Rattle.segment_stream.specs.Segments.{cipher_of, ciphers_of}
 use Rattle.segment_stream.specs.StreamKeys.{key_in, stream_keys}

@@ -10,7 +10,7 @@ use Rattle.keyset_model.specs.Keyset.{Keys}
 use Rattle.keyset_model.specs.declared.record.Record.{Record}
 use Rattle.managers.specs.Schemes.{Scheme}
 use Rattle.managers.specs.Table.{Table}
-use Rattle.seal_wrap.specs.Enveloped.{open_envelope_of}
+use Rattle.envelopes.specs.Enveloped.{open_envelope_of}
 use Rattle.tinkey_cmds.specs.Edits.{Edit, Disable, Destroy, Delete, step}
 use Rattle.segment_stream.specs.Opening.{stream_answer}
 use Rattle.segment_stream.specs.Segments.{ciphers_of}

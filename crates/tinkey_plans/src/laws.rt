@@ -5,7 +5,7 @@ ghost use Rattle.tinkey_plans.specs.Naming.{KeyOfStreamTells, KeyOfTells, Sealer
 ghost use Rattle.tinkey_plans.specs.Retiring.{RetiringLosesNothing};
 ghost use Rattle.tinkey_plans.specs.Laws.{CommandsAreWhole, DataKeysCome, FitKeysetsAnswer, RangesReadLittle, SelfTestRuns, SelfTestsTell};
 
-use seal_wrap::laws::standard_data_keys;
+use envelopes::laws::standard_data_keys;
 use tinkey_selftest::laws::{counts_add_up, entropy_suffices, nothing_is_lost};
 
 /// A keyset without a fault whose ENABLED records can all serve has a primary key under its table,

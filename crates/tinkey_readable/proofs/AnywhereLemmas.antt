@@ -12,9 +12,9 @@ use Rattle.keyset_model.specs.declared.record.Record.{Record}
 use Rattle.managers.specs.Standard.{standard_table}
 use Rattle.managers.specs.Schemes.{Scheme}
 use Rattle.managers.specs.Table.{scheme_at}
-use Rattle.seal_wrap.specs.EnvelopeLaws.{DataKeysAreServed, EnvelopeBack, EnvelopesFit, IsDataKeyRow}
-use Rattle.seal_wrap.specs.Enveloped.{open_envelope_of}
-use Rattle.seal_wrap.specs.Enveloping.{IsAead, url_made}
+use Rattle.envelopes.specs.EnvelopeLaws.{DataKeysAreServed, EnvelopeBack, EnvelopesFit, IsDataKeyRow}
+use Rattle.envelopes.specs.Enveloped.{open_envelope_of}
+use Rattle.envelopes.specs.Enveloping.{IsAead, url_made}
 use Rattle.seal_wrap.specs.Laws.{WrapBackBytes}
 use Rattle.seal_wrap.specs.Sealings.{DsealingsFit, SealingsFit}
 use Rattle.seal_wrap.specs.Unwrapped.{unwrap_of}

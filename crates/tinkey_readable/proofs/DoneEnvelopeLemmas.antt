@@ -5,7 +5,7 @@ use Rattle.key_msgs.specs.declared.rule.Rule.{Rule}
 use Rattle.keyset_model.specs.Keyset.{Keys}
 use Rattle.managers.specs.Schemes.{Scheme}
 use Rattle.managers.specs.Table.{Table}
-use Rattle.seal_wrap.specs.Enveloped.{Enveloped, Parts, envelope, envelope_of, open_envelope_of, parts_in, seal_parts, with_payload}
+use Rattle.envelopes.specs.Enveloped.{Enveloped, Parts, envelope, envelope_of, open_envelope_of, parts_in, seal_parts, with_payload}
 use Rattle.std.specs.Option.{option_and_then}
 use Rattle.wrapped_prims.specs.Answers.{Sealed, seal_answer}
 use Rattle.tinkey_cmds.specs.Draws.{Drawn}

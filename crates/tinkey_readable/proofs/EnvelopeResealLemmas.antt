@@ -10,8 +10,8 @@ use Rattle.keyset_model.specs.Writing.{ReadKeysFit}
 use Rattle.managers.specs.Schemes.{Scheme}
 use Rattle.managers.specs.Standard.{standard_table}
 use Rattle.managers.specs.Table.{scheme_at}
-use Rattle.seal_wrap.specs.Enveloped.{Parts, envelope, parts_in, reseal_envelope_of, seal_parts, with_payload}
-use Rattle.seal_wrap.specs.EnvelopeLaws.{AreKeysResealed, DataKeysAreServed, EnvelopeResealed, EnvelopeUnder, IsDataKeyRow, IsKeyResealed}
+use Rattle.envelopes.specs.Enveloped.{Parts, envelope, parts_in, reseal_envelope_of, seal_parts, with_payload}
+use Rattle.envelopes.specs.EnvelopeLaws.{AreKeysResealed, DataKeysAreServed, EnvelopeResealed, EnvelopeUnder, IsDataKeyRow, IsKeyResealed}
 use Rattle.tinkey_cmds.specs.Draws.{Drawn}
 use Rattle.wrapped_prims.specs.Answers.{Sealed, seal_answer}
 use Rattle.tinkey_plans.proofs.EnvelopeLemmas.{row_known}

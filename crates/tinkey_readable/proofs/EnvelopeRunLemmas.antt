@@ -12,9 +12,9 @@ use Rattle.keyset_model.specs.declared.record.Record.{Record}
 use Rattle.managers.specs.Schemes.{Scheme}
 use Rattle.managers.specs.Standard.{standard_table}
 use Rattle.managers.specs.Table.{Table, scheme_at}
-use Rattle.seal_wrap.specs.EnvelopeLaws.{DataKeysAreServed, IsAeadScheme}
-use Rattle.seal_wrap.specs.Enveloped.{Enveloped, envelope_of}
-use Rattle.seal_wrap.specs.Enveloping.{IsAead, url_made}
+use Rattle.envelopes.specs.EnvelopeLaws.{DataKeysAreServed, IsAeadScheme}
+use Rattle.envelopes.specs.Enveloped.{Enveloped, envelope_of}
+use Rattle.envelopes.specs.Enveloping.{IsAead, url_made}
 use Rattle.tinkey_cmds.specs.Draws.{Drawn}
 use Rattle.tinkey_session.proofs.UsableLemmas.{valid_key}
 use Rattle.wrapped_prims.specs.Fitness.{key_of_record, unfit}

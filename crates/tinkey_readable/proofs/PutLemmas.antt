@@ -12,7 +12,7 @@ use Rattle.key_msgs.specs.declared.rule.Rule.{Rule}
 use Rattle.keyset_model.specs.Keyset.{Keys}
 use Rattle.managers.specs.Schemes.{Scheme}
 use Rattle.managers.specs.Table.{Table}
-use Rattle.seal_wrap.specs.Enveloped.{Enveloped, Parts, envelope, envelope_of, open_envelope_of, parts_in}
+use Rattle.envelopes.specs.Enveloped.{Enveloped, Parts, envelope, envelope_of, open_envelope_of, parts_in}
 use Rattle.tinkey_cmds.specs.Draws.{Drawn}
 use Rattle.tinkey_session.proofs.Options.{clash}
 use Rattle.tinkey_session.specs.HeldLaws.{AreBytes}

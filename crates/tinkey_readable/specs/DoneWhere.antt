@@ -17,8 +17,8 @@ use Rattle.keyset_model.specs.declared.record.Record.{Record}
 use Rattle.managers.specs.Schemes.{Scheme}
 use Rattle.managers.specs.Table.{Table, scheme_at}
 use Rattle.managers.specs.Uses.{iv_size}
-use Rattle.seal_wrap.specs.Enveloped.{envelope_of, open_envelope_of, reseal_envelope_of}
-use Rattle.seal_wrap.specs.Enveloping.{IsAead, url_made}
+use Rattle.envelopes.specs.Enveloped.{envelope_of, open_envelope_of, reseal_envelope_of}
+use Rattle.envelopes.specs.Enveloping.{IsAead, url_made}
 use Rattle.segment_stream.specs.Opening.{decides, fits, released}
 use Rattle.segment_stream.specs.Range.{range_of}
 use Rattle.segment_stream.specs.Sealing.{seal_decides}

@@ -25,12 +25,10 @@ ghost use Rattle.tinkey_readable.specs.ServingTemplates.{StreamTemplatesServe, T
 ghost use Rattle.tinkey_readable.specs.StreamFiles.{StreamsWholeOrAbsent};
 ghost use Rattle.tinkey_readable.specs.StreamRuns.{RunsOpenStream, RunsOpenStreamPresent};
 
+use envelopes::laws::{envelope_back, envelope_resealed, envelopes_fit, standard_data_keys};
 use keyset_json::laws::{json_back, json_is_stored};
 use keyset_model::laws::{binary_back, faultless_keysets, read_keysets_fit};
-use seal_wrap::laws::{
-    envelope_back, envelope_resealed, envelopes_fit, sealings_fit, standard_data_keys,
-    text_hides_keys, wrap_back_bytes,
-};
+use seal_wrap::laws::{sealings_fit, text_hides_keys, wrap_back_bytes};
 use segment_stream::laws::{
     decided_stays, range_is_slice, released_prefix, resealed_back, stream_back,
 };

@@ -1,6 +1,6 @@
 use Rattle.std.proofs.Common.{drop, Ok, Err}
-use Rattle.seal_wrap.proofs.OpenedInPlace.{rest_whole}
-use Rattle.seal_wrap.specs.EnvelopeSteps.{parts_at}
+use Rattle.envelopes.proofs.OpenedInPlace.{rest_whole}
+use Rattle.envelopes.specs.EnvelopeSteps.{parts_at}
 use Rattle.tinkey_plans.specs.declared.status.Status.TheVariants as status
 use Rattle.tinkey_actions.proofs.EnvelopeLemmas.{no_parts, parts_pass, resealed_key_passes, resealing_failed, resealing_starved}
 use Rattle.tinkey_actions.proofs.enveloping.reseal_envelope.Goals as goal

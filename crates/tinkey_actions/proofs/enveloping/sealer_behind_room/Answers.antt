@@ -1,4 +1,4 @@
-use Rattle.seal_wrap.proofs.OpenedInPlace.{rest_whole}
+use Rattle.envelopes.proofs.OpenedInPlace.{rest_whole}
 use Rattle.tinkey_actions.proofs.enveloping.sealer_behind_room.Goals as goal
 
 pub returns : goal.returns

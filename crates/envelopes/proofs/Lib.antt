@@ -1,0 +1,4 @@
+pub mod DataKeyLemmas
+pub mod EnvelopeBackLemmas
+pub mod EnvelopeLemmas
+pub mod OpenedInPlace

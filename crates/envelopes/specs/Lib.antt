@@ -1,0 +1,4 @@
+pub mod EnvelopeLaws
+pub mod EnvelopeSteps
+pub mod Enveloped
+pub mod Enveloping

@@ -1,5 +1,0 @@
-use Rattle.seal_wrap.proofs.EnvelopeBackLemmas.{envelopes_fit}
-use Rattle.seal_wrap.proofs.laws.envelopes_fit.Goals as goal
-
-pub returns : goal.returns
-returns c = envelopes_fit c.reading_is_admitted.ensures
