@@ -153,14 +153,25 @@ fn first_bytes_of_case_1(size: usize) -> [u8; 17]
 }
 
 // RFC 4231, case 1. Its tag begins with the shorter ones (RFC 2104, 5).
-#[test]
-fn writes_no_more_bytes_than_asked_for(rt: HostRuntime) {
+fn assert_first_bytes(size: usize) -> Result<(), (&'static str, usize)> {
     let whole = 0xb0344c61d8db38535ca8afceaf0bf12b_u128.to_be_bytes();
-    for &size in &[0, 10, 16] {
-        assert!(rt; size <= 16);
-        let bytes = first_bytes_of_case_1(size);
-        let (tag, rest) = bytes.split_at(size);
-        assert!(rt; tag == &whole[..size], "{size} bytes");
-        assert!(rt; rest.iter().all(|byte| *byte == 0xee), "after {size} bytes");
+    if size > 16 {
+        return Err(("no more than 16 bytes", size));
     }
+    let bytes = first_bytes_of_case_1(size);
+    if bytes[..size] != whole[..size] {
+        return Err(("the bytes that were asked for", size));
+    }
+    if bytes[size..] != [0xee; 17][size..] {
+        return Err(("the bytes after them", size));
+    }
+    Ok(())
+}
+
+#[test]
+fn writes_no_more_bytes_than_asked_for(_rt: HostRuntime) -> Result<(), Fail> {
+    for &size in &[0, 10, 16] {
+        assert_first_bytes(size)?;
+    }
+    Ok(())
 }
