@@ -174,25 +174,51 @@ fn time_opening(
     watch.print(rt, last)
 }
 
-/// Repeats the task for so long, and prints how often it ran, in how many nanoseconds, and how many
-/// keys the last opening tried.
-pub fn time(rt: &HostRuntime, task: Task, keys: usize, milliseconds: u32) -> io::Result<()> {
+// Opens these bytes over and over by a handle of the keyset.
+fn time_opening_by(
+    rt: &HostRuntime,
+    keyset: &Keyset,
+    managers: &Managers,
+    sealed: &[u8],
+    milliseconds: u32,
+) -> io::Result<()>
+    requires few { length sealed.now ≤ 1000 }
+{
+    match Handle::new(rt.alloc(), keyset, managers, Primitive::Aead) {
+        Ok(handle) => time_opening(rt, &handle, sealed, milliseconds),
+        Err(_) => Err(ErrorKind::InvalidInput.into()),
+    }
+}
+
+// Repeats the task over a keyset of AES-GCM keys with the URL `g`.
+fn time_over(
+    rt: &HostRuntime,
+    task: Task,
+    keyset: &Keyset,
+    sealed: &[u8],
+    milliseconds: u32,
+) -> io::Result<()>
+    requires few { length sealed.now ≤ 1000 }
+{
     let alloc = rt.alloc();
-    let keyset = keyset_of(alloc, keys)?;
-    let sealed = sealed_by(alloc, task.place(keys))?;
-    let mut aead: Vec<Box<dyn AeadManager>> = Vec::new(alloc);
     let manager = StandardAead::new(String::from_str(alloc, "g")?, AeadScheme::Gcm);
+    let mut aead: Vec<Box<dyn AeadManager>> = Vec::new(alloc);
     aead.push(Box::new(alloc, manager)?)?;
     let Ok(all) = Managers::new(aead, Vec::new(alloc), Vec::new(alloc), Vec::new(alloc)) else {
         return Err(ErrorKind::InvalidInput.into());
     };
-    let Ok(handle) = Handle::new(alloc, &keyset, &all, Primitive::Aead) else {
-        return Err(ErrorKind::InvalidInput.into());
-    };
     match task {
-        Task::Make => time_making(rt, &keyset, &all, milliseconds),
+        Task::Make => time_making(rt, keyset, &all, milliseconds),
         Task::OpenFirst | Task::OpenMiddle | Task::OpenLast => {
-            time_opening(rt, &handle, &sealed, milliseconds)
+            time_opening_by(rt, keyset, &all, sealed, milliseconds)
         }
     }
+}
+
+/// Repeats the task for so long, and prints how often it ran, in how many nanoseconds, and how many
+/// keys the last opening tried.
+pub fn time(rt: &HostRuntime, task: Task, keys: usize, milliseconds: u32) -> io::Result<()> {
+    let keyset = keyset_of(rt.alloc(), keys)?;
+    let sealed = sealed_by(rt.alloc(), task.place(keys))?;
+    time_over(rt, task, &keyset, &sealed, milliseconds)
 }
