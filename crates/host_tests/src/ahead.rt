@@ -201,16 +201,38 @@ fn goes_on_behind(
     gone: usize,
 ) -> Result<(), Fail> {
     let calls = Calls::new();
-    let mut entropy = failing(bytes, WHOLE, fault, &calls);
     let (before, after) = LARGE.split_at_checked(place).ok_or("a draw at the place")?;
-    let first = drawn(alloc, &mut entropy, before)?;
-    are_those_from(alloc, "before the fault", bytes, 0, &first)?;
     let size = after.first().ok_or("a draw at the place")?;
-    let mut out = vec![in alloc; 0u8; *size]?;
-    fails(&mut entropy, "a read fails", &mut out)?;
-    let rest = drawn(alloc, &mut entropy, after)?;
-    let at = first.len().saturating_add(gone);
-    are_those_from(alloc, "behind the fault", bytes, at, &rest)
+    let mut entropy = failing(bytes, WHOLE, fault, &calls);
+    let drew = draws(alloc, "before the fault", bytes, 0, &mut entropy, before)?;
+    fails_at(alloc, &mut entropy, *size)?;
+    let at = drew.saturating_add(gone);
+    draws(alloc, "behind the fault", bytes, at, &mut entropy, after)?;
+    Ok(())
+}
+
+/// Draws of these sizes, held to the device's bytes from a place on. Gives how many bytes were drawn.
+fn draws(
+    alloc: Global,
+    shows: &str,
+    bytes: &[u8],
+    at: usize,
+    entropy: &mut FileEntropy<OpensMetered<'_>>,
+    sizes: &[usize],
+) -> Result<usize, Fail> {
+    let all = drawn(alloc, entropy, sizes)?;
+    are_those_from(alloc, shows, bytes, at, &all)?;
+    Ok(all.len())
+}
+
+/// Holds a draw of so many bytes to a fault.
+fn fails_at(
+    alloc: Global,
+    entropy: &mut FileEntropy<OpensMetered<'_>>,
+    size: usize,
+) -> Result<(), Fail> {
+    let mut out = vec![in alloc; 0u8; size]?;
+    fails(entropy, "a read fails", &mut out)
 }
 
 // The read that fails, the draw that it fails in, and how many bytes are gone: what was held, and no more.
@@ -233,15 +255,14 @@ fn goes_on_behind_each_read_that_fails(rt: HostRuntime) -> Result<(), Fail> {
 
 /// Draws of 12 bytes up to a fault, and one behind it. The device gives one byte at a time.
 fn goes_on_in_mid_draw(alloc: Global, bytes: &[u8], fault: usize) -> Result<(), Fail> {
-    let calls = Calls::new();
-    let mut entropy = failing(bytes, 1, fault, &calls);
     let given = fault.saturating_sub(1);
     let sizes = vec![in alloc; 12; given / 12]?;
-    let before = drawn(alloc, &mut entropy, &sizes)?;
-    are_those_from(alloc, "before the fault", bytes, 0, &before)?;
+    let calls = Calls::new();
+    let mut entropy = failing(bytes, 1, fault, &calls);
+    draws(alloc, "before the fault", bytes, 0, &mut entropy, &sizes)?;
     fails(&mut entropy, "a read fails", &mut [0; 12])?;
-    let behind = drawn(alloc, &mut entropy, &[12])?;
-    are_those_from(alloc, "behind the fault", bytes, given, &behind)
+    draws(alloc, "behind the fault", bytes, given, &mut entropy, &[12])?;
+    Ok(())
 }
 
 #[test]
@@ -257,8 +278,14 @@ fn a_fault_in_mid_draw_uses_up_what_was_read(rt: HostRuntime) -> Result<(), Fail
 fn draws_what_is_held(alloc: Global, bytes: &[u8], fault: usize) -> Result<(), Fail> {
     let calls = Calls::new();
     let mut entropy = failing(bytes, WHOLE, fault, &calls);
-    let held = drawn(alloc, &mut entropy, &[64, 24, 0, 8])?;
-    are_those_from(alloc, "what is held", bytes, 0, &held)?;
+    draws(
+        alloc,
+        "what is held",
+        bytes,
+        0,
+        &mut entropy,
+        &[64, 24, 0, 8],
+    )?;
     counts("what is held", calls.reads.get(), 1)?;
     fails(&mut entropy, "four bytes are held", &mut [0; 5])?;
     counts("a byte too many", calls.reads.get(), 2)?;

@@ -1,7 +1,7 @@
 //! Streams that are closed when a run begins, and a stream that tells a fault only when all was written.
 
-use crate::codes::GCM;
-use crate::listed::in_text;
+use crate::codes::{GCM, store_with};
+use crate::listed::{Listed, in_text};
 use crate::metered::{MayBeClosed, Taking, counts};
 use real_objects::{StdSink, StdSource};
 use std::alloc::Global;
@@ -25,20 +25,23 @@ fn a_closed_stream_is_never_read(rt: HostRuntime) -> Result<(), Fail> {
     };
     let mut source = StdSource::probed(rt.alloc(), stream)?;
     for &size in &SIZES {
-        let mut out = vec![in rt.alloc(); 7u8; size]?;
-        if source.read(&mut out).is_ok() {
-            return Err("a read of a closed stream".into());
-        }
-        let kept = vec![in rt.alloc(); 7u8; size]?;
-        same_bytes(
-            rt.alloc(),
-            "a closed stream",
-            "what was read into",
-            &kept,
-            &out,
-        )?;
+        reads_nothing(rt.alloc(), &mut source, size)?;
     }
     counts("reads of the stream", reads.get(), 0)
+}
+
+/// Holds a read into so many bytes of a closed stream to a fault that leaves them as they were.
+fn reads_nothing(
+    alloc: Global,
+    source: &mut StdSource<MayBeClosed<'_>>,
+    size: usize,
+) -> Result<(), Fail> {
+    let kept = vec![in alloc; 7u8; size]?;
+    let mut out = vec![in alloc; 7u8; size]?;
+    if source.read(&mut out).is_ok() {
+        return Err("a read of a closed stream".into());
+    }
+    same_bytes(alloc, "a closed stream", "what was read into", &kept, &out)
 }
 
 #[test]
@@ -113,46 +116,66 @@ struct Ended {
     asked: usize,
 }
 
-/// Runs a row over a store with a keyset `k`.
-fn run_over(alloc: Global, row: &str, store: &mut MemStore) -> Result<Ended, Fail> {
-    let words = in_text(alloc, cell(row, 1)?)?;
-    let keyset = bytes_of(alloc, GCM)?;
+/// Which streams of a row are open, and whether its output keeps no fault back.
+#[derive(Clone, Copy)]
+struct Marks {
+    input: bool,
+    output: bool,
+    line: bool,
+    well: bool,
+}
+
+fn marks_of(row: &str) -> Result<Marks, Fail> {
+    Ok(Marks {
+        input: is_open(row, 0)?,
+        output: is_open(row, 1)?,
+        line: is_open(row, 2)?,
+        well: !cell(row, 2)?.ends_with('f'),
+    })
+}
+
+/// Runs words over this input, these random bytes and a store.
+fn run_words(
+    alloc: Global,
+    words: &Listed,
+    input: &[u8],
+    marks: Marks,
+    entropy: &mut MemEntropy,
+    store: &mut MemStore,
+) -> Result<Ended, Fail> {
     let (reads, writes, asked) = (Cell::new(0), Cell::new(0), Cell::new(0));
     let (lines, line_asked) = (Cell::new(0), Cell::new(0));
-    let mut written = Vec::new(alloc);
-    let mut line = Vec::new(alloc);
     let stream = MayBeClosed {
-        left: &keyset,
-        open: is_open(row, 0)?,
+        left: input,
+        open: marks.input,
         reads: &reads,
     };
     let mut source = StdSource::probed(alloc, stream)?;
-    let mut sink = StdSink::probed(Taking {
-        written: &mut written,
-        open: is_open(row, 1)?,
-        well: !cell(row, 2)?.ends_with('f'),
-        writes: &writes,
-        asked: &asked,
-    });
-    let mut diag = StdSink::probed(Taking {
-        written: &mut line,
-        open: is_open(row, 2)?,
-        well: true,
-        writes: &lines,
-        asked: &line_asked,
-    });
-    let mut entropy = MemEntropy::new(counting(alloc, 64)?, Vec::new(alloc));
+    let mut written = Vec::new(alloc);
+    let mut line = Vec::new(alloc);
     let code = obey_to_the_end(
-        &words,
+        words,
         alloc,
         Terminals {
             input: false,
             output: false,
         },
         &mut source,
-        &mut sink,
-        &mut diag,
-        &mut entropy,
+        &mut StdSink::probed(Taking {
+            written: &mut written,
+            open: marks.output,
+            well: marks.well,
+            writes: &writes,
+            asked: &asked,
+        }),
+        &mut StdSink::probed(Taking {
+            written: &mut line,
+            open: marks.line,
+            well: true,
+            writes: &lines,
+            asked: &line_asked,
+        }),
+        entropy,
         store,
     );
     Ok(Ended {
@@ -163,18 +186,31 @@ fn run_over(alloc: Global, row: &str, store: &mut MemStore) -> Result<Ended, Fai
     })
 }
 
-/// Holds a run to its row.
-fn runs(alloc: Global, row: &str) -> Result<(), Fail> {
-    let mut store = MemStore::new(alloc, Vec::new(alloc));
-    store.put("k", &bytes_of(alloc, GCM)?)?;
-    let ended = run_over(alloc, row, &mut store)?;
+/// Runs a row over a store.
+fn run_over(alloc: Global, row: &str, store: &mut MemStore) -> Result<Ended, Fail> {
+    let marks = marks_of(row)?;
+    let words = in_text(alloc, cell(row, 1)?)?;
+    let keyset = bytes_of(alloc, GCM)?;
+    let mut entropy = MemEntropy::new(counting(alloc, 64)?, Vec::new(alloc));
+    run_words(alloc, &words, &keyset, marks, &mut entropy, store)
+}
+
+/// Holds what came of a run to its row.
+fn ends(row: &str, ended: &Ended) -> Result<(), Fail> {
     let want = cell(row, 3)?;
     if ended.code != ExitCode::from(want.parse::<u8>()?) {
         return Err(unlike(row, "the exit code", want, "another"));
     }
     begins(row, "the line", 4, &ended.line)?;
     begins(row, "the output", 5, &ended.written)?;
-    counts(row, ended.asked, cell(row, 6)?.parse::<usize>()?)?;
+    counts(row, ended.asked, cell(row, 6)?.parse::<usize>()?)
+}
+
+/// Holds a run to its row.
+fn runs(alloc: Global, row: &str) -> Result<(), Fail> {
+    let mut store = store_with(alloc, GCM)?;
+    let ended = run_over(alloc, row, &mut store)?;
+    ends(row, &ended)?;
     makes(alloc, row, &mut store)
 }
 

@@ -2,7 +2,7 @@
 
 ghost use Rattle.std.specs.Prelude.{◌-◌, ◌^◌, [], None, Some, if◌then◌else◌};
 
-use crate::listed::{Listed, in_digits, in_text};
+use crate::listed::{Listed, in_digits, in_text, words_of};
 use dir_store::DirStore;
 use real_objects::{FileEntropy, RandomDevice};
 use std::alloc::Global;
@@ -188,26 +188,51 @@ fn has_lines(row: &str, written: &[u8]) -> Result<(), Fail> {
     Ok(())
 }
 
-/// Obeys a row over this store, and compares the exit code, the output and the line.
-fn obey_over<D: PieceStore>(alloc: Global, row: &str, store: &mut D) -> Result<(), Fail> {
-    let line = line_of(alloc, cell(row, 1)?)?;
-    let mut source = source_of(alloc, cell(row, 2)?)?;
-    let mut sink = sink_of(alloc)?;
-    let mut diag = sink_of(alloc)?;
-    let mut entropy = MemEntropy::new(Vec::new(alloc), Vec::new(alloc));
-    let code = obey_listed(
-        &line,
-        alloc,
-        terminals_of(row)?,
-        &mut source,
-        &mut sink,
-        &mut diag,
-        &mut entropy,
-        store,
-    );
+/// Holds what came of a row to its exit code, its output and its lines.
+fn came(row: &str, code: ExitCode, sink: &MemSink, diag: &MemSink) -> Result<(), Fail> {
     has_code(row, code)?;
     has_output(row, sink.written())?;
     has_lines(row, diag.written())
+}
+
+/// Obeys a command line over this input and this store, without random bytes.
+fn obey_line<D: PieceStore>(
+    alloc: Global,
+    row: &str,
+    line: &Listed,
+    source: &mut MemSource,
+    store: &mut D,
+) -> Result<(), Fail> {
+    let terminals = terminals_of(row)?;
+    let mut sink = sink_of(alloc)?;
+    let mut diag = sink_of(alloc)?;
+    let code = obey_listed(
+        line,
+        alloc,
+        terminals,
+        source,
+        &mut sink,
+        &mut diag,
+        &mut MemEntropy::new(Vec::new(alloc), Vec::new(alloc)),
+        store,
+    );
+    came(row, code, &sink, &diag)
+}
+
+/// Obeys a row over this store, and compares the exit code, the output and the line.
+fn obey_over<D: PieceStore>(alloc: Global, row: &str, store: &mut D) -> Result<(), Fail> {
+    let (line, input) = (cell(row, 1)?, cell(row, 2)?);
+    let line = line_of(alloc, line)?;
+    let mut source = source_of(alloc, input)?;
+    obey_line(alloc, row, &line, &mut source, store)
+}
+
+/// A store whose file `k` has these bytes, in hexadecimal digits.
+pub(crate) fn store_with(alloc: Global, digits: &str) -> Result<MemStore, Fail> {
+    let bytes = bytes_of(alloc, digits)?;
+    let mut store = MemStore::new(alloc, Vec::new(alloc));
+    store.put("k", &bytes)?;
+    Ok(store)
 }
 
 /// Obeys a row. The file `k` is the keyset for HMAC.
@@ -219,8 +244,7 @@ fn obey_row(alloc: Global, row: &str) -> Result<(), Fail> {
         };
         return obey_over(alloc, row, &mut store);
     }
-    let mut store = MemStore::new(alloc, Vec::new(alloc));
-    store.put("k", &bytes_of(alloc, HMAC)?)?;
+    let mut store = store_with(alloc, HMAC)?;
     obey_over(alloc, row, &mut store)
 }
 
@@ -242,23 +266,27 @@ fn obeys_the_words_of_the_process(rt: HostRuntime) {
 const REAL: &str =
     "no command | | | 2 | tinkey: usage: word 0\ntinkey: no such command: see tinkey help | |";
 
-#[test]
-fn tells_the_exit_code_of_a_run(rt: HostRuntime) -> Result<(), Fail> {
-    let mut words = Vec::new(rt.alloc());
-    words.push(String::from_str(rt.alloc(), "no-command")?)?;
+/// Obeys these words over the real random bytes and files.
+fn obey_really(rt: &HostRuntime, words: &[String], source: &mut MemSource) -> Result<(), Fail> {
+    let terminals = terminals_of(REAL)?;
     let mut sink = sink_of(rt.alloc())?;
     let mut diag = sink_of(rt.alloc())?;
     let code = obey(
         rt.alloc(),
-        &words,
-        terminals_of(REAL)?,
-        &mut source_of(rt.alloc(), "")?,
+        words,
+        terminals,
+        source,
         &mut sink,
         &mut diag,
-        &mut FileEntropy::new(RandomDevice::new(&rt)),
-        &mut DirStore::new(&rt),
+        &mut FileEntropy::new(RandomDevice::new(rt)),
+        &mut DirStore::new(rt),
     );
-    has_code(REAL, code)?;
-    has_output(REAL, sink.written())?;
-    has_lines(REAL, diag.written())
+    came(REAL, code, &sink, &diag)
+}
+
+#[test]
+fn tells_the_exit_code_of_a_run(rt: HostRuntime) -> Result<(), Fail> {
+    let words = words_of(rt.alloc(), &["no-command"])?;
+    let mut source = source_of(rt.alloc(), "")?;
+    obey_really(&rt, &words, &mut source)
 }

@@ -30,6 +30,15 @@ impl Arguments for Listed {
     }
 }
 
+/// These words.
+pub(crate) fn words_of(alloc: Global, words: &[&str]) -> Result<Vec<String>, Fail> {
+    let mut all = Vec::new(alloc);
+    for &word in words {
+        all.push(String::from_str(alloc, word)?)?;
+    }
+    Ok(all)
+}
+
 /// The command line of a cell, whose words are hexadecimal digits and stand between commas.
 pub(crate) fn in_digits(alloc: Global, cell: &str) -> Result<Listed, Fail> {
     let mut words = Vec::new(alloc);

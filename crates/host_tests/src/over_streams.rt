@@ -3,6 +3,7 @@
 
 use crate::ahead::{Calls, OpensMetered, drawn, failing};
 use crate::codes::{GCM, LISTING};
+use crate::listed::words_of;
 use crate::metered::{Metered, Taking, WHOLE, counts};
 use real_objects::{FileEntropy, StdSink, StdSource};
 use std::alloc::Global;
@@ -43,17 +44,32 @@ fn run(
     sink: &mut StdSink<Taking<'_>>,
     entropy: &mut FileEntropy<OpensMetered<'_>>,
 ) -> Result<(), Fail> {
-    let mut all = Vec::new(alloc);
-    for &word in words {
-        all.push(String::from_str(alloc, word)?)?;
-    }
+    let words = words_of(alloc, words)?;
     let mut diag = MemSink::new(alloc, 256, 64, Vec::new(alloc))?;
     let mut store = MemStore::new(alloc, Vec::new(alloc));
-    let status = start_over_streams(alloc, &all, source, sink, &mut diag, entropy, &mut store);
+    let status = start_over_streams(alloc, &words, source, sink, &mut diag, entropy, &mut store);
     if !matches!(status, Status::Done) {
         return Err("a status other than done".into());
     }
     same_bytes(alloc, "a run", "the line", b"", diag.written())
+}
+
+/// Reads the first three bytes, writes a line, and runs these words.
+fn run_after(
+    alloc: Global,
+    words: &[&str],
+    source: &mut StdSource<Metered<'_>>,
+    sink: &mut StdSink<Taking<'_>>,
+    entropy: &mut FileEntropy<OpensMetered<'_>>,
+) -> Result<(), Fail> {
+    let mut front = [0; 3];
+    match source.read(&mut front) {
+        Ok(3) => {}
+        Ok(_) | Err(Failed) => return Err("a read of three bytes".into()),
+    }
+    same_bytes(alloc, "the front", "what was read", b"abc", &front)?;
+    write_all(sink, b"before\n")?;
+    run(alloc, words, source, sink, entropy)
 }
 
 /// Runs these words over this input, whose first three bytes are read before it, behind a line that was
@@ -81,14 +97,7 @@ fn run_behind(
         writes: &writes,
         asked: &asked,
     });
-    let mut front = [0; 3];
-    match source.read(&mut front) {
-        Ok(3) => {}
-        Ok(_) | Err(Failed) => return Err("a read of three bytes".into()),
-    }
-    same_bytes(alloc, "the front", "what was read", b"abc", &front)?;
-    write_all(&mut sink, b"before\n")?;
-    run(alloc, words, &mut source, &mut sink, entropy)
+    run_after(alloc, words, &mut source, &mut sink, entropy)
 }
 
 /// Holds what was written to this, behind a line.
@@ -118,37 +127,28 @@ fn answers_over_bytes_that_were_drawn_ahead(rt: HostRuntime) -> Result<(), Fail>
     let random = bytes_of(rt.alloc(), RANDOM)?;
     let calls = Calls::new();
     let mut entropy = failing(&random, WHOLE, 0, &calls);
-    let before = drawn(rt.alloc(), &mut entropy, &[3])?;
-    same_bytes(
-        rt.alloc(),
-        "the front",
-        "what was drawn",
-        &[0xab, 0xcd, 0xef],
-        &before,
-    )?;
-    let mut found = Vec::new(rt.alloc());
-    let reads = Cell::new(0);
-    run_behind(
-        rt.alloc(),
-        &CREATE,
-        b"abc",
-        &mut entropy,
-        &reads,
-        &mut found,
-    )?;
+    draws(rt.alloc(), "the front", &mut entropy, &[0xab, 0xcd, 0xef])?;
+    makes_keyset(rt.alloc(), &mut entropy)?;
     counts("reads of the device", calls.reads.get(), 1)?;
-    is_behind(
-        rt.alloc(),
-        "a new keyset",
-        &bytes_of(rt.alloc(), GCM)?,
-        &found,
-    )?;
-    let behind = drawn(rt.alloc(), &mut entropy, &[4])?;
-    same_bytes(
-        rt.alloc(),
-        "the rest",
-        "what was drawn",
-        &[0xfe; 4],
-        &behind,
-    )
+    draws(rt.alloc(), "the rest", &mut entropy, &[0xfe; 4])
+}
+
+/// Draws as many bytes as these, and holds them to these.
+fn draws(
+    alloc: Global,
+    shows: &str,
+    entropy: &mut FileEntropy<OpensMetered<'_>>,
+    want: &[u8],
+) -> Result<(), Fail> {
+    let found = drawn(alloc, entropy, &[want.len()])?;
+    same_bytes(alloc, shows, "what was drawn", want, &found)
+}
+
+/// Makes a keyset of these random bytes, and holds it to the one that is expected.
+fn makes_keyset(alloc: Global, entropy: &mut FileEntropy<OpensMetered<'_>>) -> Result<(), Fail> {
+    let want = bytes_of(alloc, GCM)?;
+    let mut found = Vec::new(alloc);
+    let reads = Cell::new(0);
+    run_behind(alloc, &CREATE, b"abc", entropy, &reads, &mut found)?;
+    is_behind(alloc, "a new keyset", &want, &found)
 }

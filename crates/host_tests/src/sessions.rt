@@ -2,13 +2,14 @@
 //! those of the line before it, and replies are written together.
 
 use crate::ahead::{Calls, failing};
-use crate::codes::GCM;
+use crate::codes::{GCM, store_with};
+use crate::listed::words_of;
 use crate::metered::{WHOLE, counts};
 use std::alloc::Global;
 use std::process::ExitCode;
 use std::test::Fail;
-use test_words::{bytes_of, counting, same_bytes};
-use tink_base::{MemSink, MemSource, MemStore};
+use test_words::{counting, same_bytes};
+use tink_base::{MemSink, MemSource};
 use tinkey_host::{Terminals, obey};
 
 /// How many lines a session has, each of which adds a key.
@@ -48,44 +49,65 @@ const ENTROPY_FAULT: End = (5, "tinkey: entropy fault\n");
 
 const WRITE_FAULT: End = (5, "tinkey: write fault\n");
 
-fn words_of(alloc: Global) -> Result<Vec<String>, Fail> {
-    let mut words = Vec::new(alloc);
-    for &word in &WORDS {
-        words.push(String::from_str(alloc, word)?)?;
-    }
-    Ok(words)
+/// All lines, by one read.
+fn lines_of(alloc: Global) -> Result<MemSource, Fail> {
+    let input = b"add AES128_GCM\n".repeat(alloc, LINES)?;
+    Ok(MemSource::new(input, 4_096, Vec::new(alloc)))
 }
 
-/// A session over a device of these bytes. All lines come by one read of the input.
-fn answered(alloc: Global, bytes: &[u8], objects: Objects) -> Result<Ended, Fail> {
+/// Obeys the words of a session over a device of these bytes; gives the exit code, and how often it was read.
+fn obeyed(
+    alloc: Global,
+    bytes: &[u8],
+    objects: Objects,
+    sink: &mut MemSink,
+    diag: &mut MemSink,
+) -> Result<(ExitCode, usize), Fail> {
+    let words = words_of(alloc, &WORDS)?;
+    let mut source = lines_of(alloc)?;
+    let mut store = store_with(alloc, GCM)?;
     let calls = Calls::new();
-    let mut entropy = failing(bytes, objects.piece, objects.read, &calls);
-    let input = b"add AES128_GCM\n".repeat(alloc, LINES)?;
-    let mut source = MemSource::new(input, 4_096, Vec::new(alloc));
-    let fails = vec![in alloc; objects.write; 1]?;
-    let mut sink = MemSink::new(alloc, 4_096, 4_096, fails)?;
-    let mut diag = MemSink::new(alloc, 256, 256, Vec::new(alloc))?;
-    let mut store = MemStore::new(alloc, Vec::new(alloc));
-    store.put("k", &bytes_of(alloc, GCM)?)?;
     let code = obey(
         alloc,
-        &words_of(alloc)?,
+        &words,
         Terminals {
             input: false,
             output: false,
         },
         &mut source,
-        &mut sink,
-        &mut diag,
-        &mut entropy,
+        sink,
+        diag,
+        &mut failing(bytes, objects.piece, objects.read, &calls),
         &mut store,
     );
+    Ok((code, calls.reads.get()))
+}
+
+/// What a session over a device of these bytes answers, and what it tells, by these two.
+fn told_by(
+    alloc: Global,
+    bytes: &[u8],
+    objects: Objects,
+    sink: &mut MemSink,
+    diag: &mut MemSink,
+) -> Result<Ended, Fail> {
+    let (code, reads) = obeyed(alloc, bytes, objects, sink, diag)?;
+    let line = diag.written().to_vec(alloc)?;
+    let written = sink.written().to_vec(alloc)?;
     Ok(Ended {
         code,
-        line: diag.written().to_vec(alloc)?,
-        written: sink.written().to_vec(alloc)?,
-        reads: calls.reads.get(),
+        line,
+        written,
+        reads,
     })
+}
+
+/// A session over a device of these bytes. All lines come by one read of the input.
+fn answered(alloc: Global, bytes: &[u8], objects: Objects) -> Result<Ended, Fail> {
+    let fails = vec![in alloc; objects.write; 1]?;
+    let mut sink = MemSink::new(alloc, 4_096, 4_096, fails)?;
+    let mut diag = MemSink::new(alloc, 256, 256, Vec::new(alloc))?;
+    told_by(alloc, bytes, objects, &mut sink, &mut diag)
 }
 
 /// The replies to so many lines over these random bytes: the id of a line is the first four of its bytes,

@@ -223,13 +223,38 @@ fn goes_on_behind(
     let (shows, piece, fault, size, times, before) = row;
     let reads = Cell::new(0);
     let mut source = source_over(alloc, bytes, piece, fault, &reads)?;
-    let first = given(alloc, &mut source, size, times)?;
-    are_first(alloc, shows, bytes, before, &first)?;
+    gives_first(alloc, shows, bytes, before, &mut source, size, times)?;
     fails(alloc, &mut source, size)?;
     counts(shows, reads.get(), fault)?;
-    let behind = given(alloc, &mut source, size, 1)?;
-    are_those_from(alloc, shows, bytes, before, &behind)?;
+    gives_next(alloc, shows, bytes, before, &mut source, size)?;
     counts(shows, reads.get(), fault.saturating_add(1))
+}
+
+/// Holds what so many reads give to the first bytes, so many.
+fn gives_first(
+    alloc: Global,
+    shows: &str,
+    bytes: &[u8],
+    want: usize,
+    source: &mut StdSource<Metered<'_>>,
+    size: usize,
+    times: usize,
+) -> Result<(), Fail> {
+    let all = given(alloc, source, size, times)?;
+    are_first(alloc, shows, bytes, want, &all)
+}
+
+/// Holds what one read gives to the bytes from a place on.
+fn gives_next(
+    alloc: Global,
+    shows: &str,
+    bytes: &[u8],
+    at: usize,
+    source: &mut StdSource<Metered<'_>>,
+    size: usize,
+) -> Result<(), Fail> {
+    let all = given(alloc, source, size, 1)?;
+    are_those_from(alloc, shows, bytes, at, &all)
 }
 
 // A row has the bytes that the stream gives at once, the number of its read that fails, the size of each

@@ -186,14 +186,24 @@ fn assert_loaded(store: &mut DirStore<'_>, alloc: Global, bytes: &[u8]) -> Resul
 // Around the size of a page, and far above it.
 const SIZES: [usize; 6] = [0, 1, 4_095, 4_096, 4_097, 100_000];
 
+/// Writes and loads a file of so many bytes.
+fn assert_size(rt: &HostRuntime, store: &mut DirStore<'_>, size: usize) -> Result<(), Fail> {
+    let bytes = counting(rt.alloc(), size)?;
+    assert_written(rt, store, &bytes)?;
+    assert_loaded(store, rt.alloc(), &bytes)
+}
+
+/// Writes and loads files of all sizes.
+fn assert_sizes(rt: &HostRuntime, store: &mut DirStore<'_>) -> Result<(), Fail> {
+    for size in &SIZES {
+        assert_size(rt, store, *size)?;
+    }
+    Ok(())
+}
+
 #[test]
 fn writes_and_loads_files_of_any_size(rt: HostRuntime) -> Result<(), Fail> {
-    let mut store = DirStore::new(&rt);
-    for size in &SIZES {
-        let bytes = counting(rt.alloc(), *size)?;
-        assert_written(&rt, &mut store, &bytes)?;
-        assert_loaded(&mut store, rt.alloc(), &bytes)?;
-    }
+    assert_sizes(&rt, &mut DirStore::new(&rt))?;
     Ok(fs::remove_file(&rt, "sized-file")?)
 }
 
@@ -250,15 +260,19 @@ fn is_new(rt: &HostRuntime, name: &str) -> Result<(), Fail> {
     is_private(rt, name)
 }
 
+/// Creates the files of all rows.
+fn assert_places(rt: &HostRuntime, store: &mut DirStore<'_>) -> Result<(), Fail> {
+    take_all(rt, store, &BEFORE)?;
+    for row in &PLACES {
+        assert_place(store, rt.alloc(), row)?;
+    }
+    take_all(rt, store, &AFTER)
+}
+
 #[test]
 fn makes_a_file_where_the_path_is_free(rt: HostRuntime) -> Result<(), Fail> {
     make_empty(&rt, "places")?;
-    let mut store = DirStore::new(&rt);
-    take_all(&rt, &mut store, &BEFORE)?;
-    for row in &PLACES {
-        assert_place(&mut store, rt.alloc(), row)?;
-    }
-    take_all(&rt, &mut store, &AFTER)?;
+    assert_places(&rt, &mut DirStore::new(&rt))?;
     Ok(fs::remove_dir_all(&rt, "places")?)
 }
 
@@ -278,13 +292,18 @@ fn assert_long(store: &mut DirStore<'_>, alloc: Global, row: &str) -> Result<(),
     same_text(row, "the answer", cell(row, 2)?, create_word(&answer))
 }
 
+/// Creates the files of all rows.
+fn assert_all_long(store: &mut DirStore<'_>, alloc: Global) -> Result<(), Fail> {
+    for row in &LONG {
+        assert_long(store, alloc, row)?;
+    }
+    Ok(())
+}
+
 #[test]
 fn makes_files_of_the_longest_names(rt: HostRuntime) -> Result<(), Fail> {
     make_empty(&rt, "long")?;
-    let mut store = DirStore::new(&rt);
-    for row in &LONG {
-        assert_long(&mut store, rt.alloc(), row)?;
-    }
+    assert_all_long(&mut DirStore::new(&rt), rt.alloc())?;
     has_temporary(&rt, "long", 0)?;
     Ok(fs::remove_dir_all(&rt, "long")?)
 }
@@ -358,13 +377,19 @@ fn has_digits(path: &str) -> Result<(), Fail> {
     Ok(())
 }
 
+/// Holds the temporary file in a folder to being its owner's alone, and its name to 16 digits.
+fn has_own_name(rt: &HostRuntime, folder: &str) -> Result<(), Fail> {
+    let path = temporary_path(rt, folder)?;
+    is_private(rt, &path)?;
+    has_digits(&path)
+}
+
 /// Gives the name to our file, where another one had it meanwhile.
 fn assert_since(rt: &HostRuntime, name: &mut DirName<'_>) -> Result<(), Fail> {
     name.look_up()?;
     let mut file = name.open_temporary()?;
     file.write_all(b"ours")?;
-    is_private(rt, &temporary_path(rt, "since")?)?;
-    has_digits(&temporary_path(rt, "since")?)?;
+    has_own_name(rt, "since")?;
     fs::write(rt, "since/k", "theirs")?;
     refuses("a look", ErrorKind::AlreadyExists, name.look_up())?;
     refuses("a link", ErrorKind::AlreadyExists, name.link(&file))?;
@@ -416,14 +441,18 @@ fn temporary_removed(rt: &HostRuntime, name: &mut DirName<'_>) -> Result<(), Fai
     Ok(name.clear()?)
 }
 
+/// Holds what is told of names that were removed, and that stays, to the one that stays.
+fn assert_stays(rt: &HostRuntime, mut name: DirName<'_>) -> Result<(), Fail> {
+    temporary_removed(rt, &mut name)?;
+    let path = temporary_left(rt, &mut name)?;
+    let left = name.into_left().ok_or("a path")?;
+    same_text("stays", "what is left", &path, &left)
+}
+
 #[test]
 fn tells_a_temporary_name_that_stays(rt: HostRuntime) -> Result<(), Fail> {
     make_empty(&rt, "stays")?;
-    let mut name = DirName::new(rt.alloc(), &rt, "stays/k");
-    temporary_removed(&rt, &mut name)?;
-    let path = temporary_left(&rt, &mut name)?;
-    let left = name.into_left().ok_or("a path")?;
-    same_text("stays", "what is left", &path, &left)?;
+    assert_stays(&rt, DirName::new(rt.alloc(), &rt, "stays/k"))?;
     Ok(fs::remove_dir_all(&rt, "stays")?)
 }
 
@@ -459,43 +488,50 @@ fn finishes(store: &mut DirStore<'_>, name: &str, want: &str) -> Result<(), Fail
     same_text(name, "the finish", want, create_word(&answer))
 }
 
+/// Writes a file in pieces, and begins none where there can't be one.
+fn assert_pieces(rt: &HostRuntime, store: &mut DirStore<'_>) -> Result<(), Fail>
+    requires none { drafted store.old ≡ None }
+{
+    begins(store, rt.alloc(), "pieces/k", Ok(Begun::Empty))?;
+    is_absent(rt, "pieces/k")?;
+    has_temporary(rt, "pieces", 1)?;
+    finishes(store, "pieces/k", "made")?;
+    holds(rt, "pieces/k", "bytes")?;
+    is_private(rt, "pieces/k")?;
+    has_temporary(rt, "pieces", 0)?;
+    begins(store, rt.alloc(), "pieces/k", Ok(Begun::Exists))?;
+    has_temporary(rt, "pieces", 0)?;
+    begins(store, rt.alloc(), "pieces/none/k", Err(StoreError::Failed))
+}
+
 // The name isn't there before the finish, and the file is whole and its owner's alone afterwards.
 #[test]
 fn writes_a_file_in_pieces(rt: HostRuntime) -> Result<(), Fail> {
     make_empty(&rt, "pieces")?;
-    let mut store = DirStore::new(&rt);
-    begins(&mut store, rt.alloc(), "pieces/k", Ok(Begun::Empty))?;
-    is_absent(&rt, "pieces/k")?;
-    has_temporary(&rt, "pieces", 1)?;
-    finishes(&mut store, "pieces/k", "made")?;
-    holds(&rt, "pieces/k", "bytes")?;
-    is_private(&rt, "pieces/k")?;
-    has_temporary(&rt, "pieces", 0)?;
-    begins(&mut store, rt.alloc(), "pieces/k", Ok(Begun::Exists))?;
-    has_temporary(&rt, "pieces", 0)?;
-    begins(
-        &mut store,
-        rt.alloc(),
-        "pieces/none/k",
-        Err(StoreError::Failed),
-    )?;
+    assert_pieces(&rt, &mut DirStore::new(&rt))?;
     Ok(fs::remove_dir_all(&rt, "pieces")?)
+}
+
+/// Finishes a draft whose name was taken meanwhile, and one whose folder is gone.
+fn assert_gone(rt: &HostRuntime, store: &mut DirStore<'_>) -> Result<(), Fail>
+    requires none { drafted store.old ≡ None }
+{
+    begins(store, rt.alloc(), "meanwhile/k", Ok(Begun::Empty))?;
+    fs::write(rt, "meanwhile/k", "theirs")?;
+    finishes(store, "meanwhile/k", "exists")?;
+    holds(rt, "meanwhile/k", "theirs")?;
+    has_temporary(rt, "meanwhile", 0)?;
+    begins(store, rt.alloc(), "meanwhile/l", Ok(Begun::Empty))?;
+    fs::remove_dir_all(rt, "meanwhile")?;
+    finishes(store, "meanwhile/l", "failed")?;
+    is_absent(rt, "meanwhile")
 }
 
 // A name that is taken meanwhile stays as it is, and a folder that is gone is a fault.
 #[test]
 fn finishes_no_file_whose_place_is_gone(rt: HostRuntime) -> Result<(), Fail> {
     make_empty(&rt, "meanwhile")?;
-    let mut store = DirStore::new(&rt);
-    begins(&mut store, rt.alloc(), "meanwhile/k", Ok(Begun::Empty))?;
-    fs::write(&rt, "meanwhile/k", "theirs")?;
-    finishes(&mut store, "meanwhile/k", "exists")?;
-    holds(&rt, "meanwhile/k", "theirs")?;
-    has_temporary(&rt, "meanwhile", 0)?;
-    begins(&mut store, rt.alloc(), "meanwhile/l", Ok(Begun::Empty))?;
-    fs::remove_dir_all(&rt, "meanwhile")?;
-    finishes(&mut store, "meanwhile/l", "failed")?;
-    is_absent(&rt, "meanwhile")
+    assert_gone(&rt, &mut DirStore::new(&rt))
 }
 
 /// Begins a draft and drops its store.
@@ -504,13 +540,19 @@ fn drop_draft(rt: &HostRuntime, name: &str) -> Result<(), Fail> {
     begins(&mut store, rt.alloc(), name, Ok(Begun::Empty))
 }
 
+/// Begins a draft and gives it up.
+fn give_up_draft(rt: &HostRuntime, name: &str) -> Result<(), Fail> {
+    let mut store = DirStore::new(rt);
+    begins(&mut store, rt.alloc(), name, Ok(Begun::Empty))?;
+    store.give_up();
+    Ok(())
+}
+
 // A draft that is given up leaves nothing. One that is dropped leaves its temporary name, as a killed run does.
 #[test]
 fn a_draft_that_is_not_finished_has_no_name(rt: HostRuntime) -> Result<(), Fail> {
     make_empty(&rt, "unfinished")?;
-    let mut store = DirStore::new(&rt);
-    begins(&mut store, rt.alloc(), "unfinished/k", Ok(Begun::Empty))?;
-    store.give_up();
+    give_up_draft(&rt, "unfinished/k")?;
     is_absent(&rt, "unfinished/k")?;
     has_temporary(&rt, "unfinished", 0)?;
     drop_draft(&rt, "unfinished/k")?;

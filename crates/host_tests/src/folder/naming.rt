@@ -286,18 +286,19 @@ fn stands_word(stands: Stands) -> &'static str {
     }
 }
 
+/// Holds what was answered and called to a row.
+fn went(row: &str, answer: &str, name: &Traced<'_>) -> Result<(), Fail> {
+    same_text(row, "the answer", cell(row, 2)?, answer)?;
+    same_text(row, "the calls", cell(row, 3)?, &name.calls)?;
+    let stands = stands_word(name.stands);
+    same_text(row, "the temporary name", cell(row, 4)?, stands)
+}
+
 /// Makes a new file of ten bytes under the name of a row.
 fn assert_way(alloc: Global, row: &str) -> Result<(), Fail> {
     let mut name = named_by(alloc, cell(row, 1)?);
     let answer = make_file(&mut name, b"ten bytes.");
-    same_text(row, "the answer", cell(row, 2)?, made_word(&answer))?;
-    same_text(row, "the calls", cell(row, 3)?, &name.calls)?;
-    same_text(
-        row,
-        "the temporary name",
-        cell(row, 4)?,
-        stands_word(name.stands),
-    )
+    went(row, made_word(&answer), &name)
 }
 
 #[test]
@@ -372,10 +373,7 @@ fn write_draft(name: &mut Traced<'_>) -> Result<Created, FileError>
 fn assert_draft(alloc: Global, row: &str) -> Result<(), Fail> {
     let mut name = named_by(alloc, cell(row, 1)?);
     let answer = write_draft(&mut name);
-    same_text(row, "the answer", cell(row, 2)?, made_word(&answer))?;
-    same_text(row, "the calls", cell(row, 3)?, &name.calls)?;
-    let stands = stands_word(name.stands);
-    same_text(row, "the temporary name", cell(row, 4)?, stands)
+    went(row, made_word(&answer), &name)
 }
 
 #[test]

@@ -32,16 +32,20 @@ const LOOKS: [(&str, &str); 8] = [
     ("", "failed"),
 ];
 
+/// Looks up the name of each row.
+fn assert_looks(store: &mut DirStore<'_>) -> Result<(), Fail> {
+    for (name, want) in &LOOKS {
+        same_text(name, "a look", want, look_word(store.is_taken(name)))?;
+    }
+    Ok(())
+}
+
 #[test]
 fn looks_names_up(rt: HostRuntime) -> Result<(), Fail> {
     let _ = fs::remove_file(&rt, "placed-link");
     fs::write(&rt, "placed-file", b"bytes")?;
     symlink(&rt, "placed-nowhere", "placed-link")?;
-    let mut store = DirStore::new(&rt);
-    for (name, want) in &LOOKS {
-        same_text(name, "a look", want, look_word(store.is_taken(name)))?;
-    }
-    Ok(())
+    assert_looks(&mut DirStore::new(&rt))
 }
 
 /// What a length is, as a word, where the file is to have so many bytes.
@@ -65,17 +69,21 @@ const SIZES: [(&str, u64, &str); 8] = [
     ("/dev/null", 0, "failed"),
 ];
 
+/// Asks for the length of the file of each row.
+fn assert_lengths(store: &mut DirStore<'_>) -> Result<(), Fail> {
+    for (name, size, want) in &SIZES {
+        same_text(name, "the length", want, size_word(store.size(name), *size))?;
+    }
+    Ok(())
+}
+
 #[test]
 fn tells_lengths_of_files_alone(rt: HostRuntime) -> Result<(), Fail> {
     let _ = fs::remove_file(&rt, "sized-link");
     fs::write(&rt, "sized-file", b"bytes")?;
     fs::write(&rt, "sized-empty", b"")?;
     symlink(&rt, "sized-file", "sized-link")?;
-    let mut store = DirStore::new(&rt);
-    for (name, size, want) in &SIZES {
-        same_text(name, "the length", want, size_word(store.size(name), *size))?;
-    }
-    Ok(())
+    assert_lengths(&mut DirStore::new(&rt))
 }
 
 const READS: [(&str, u64, &str); 7] = [
@@ -132,20 +140,24 @@ const REPLACED: [(&str, u64, &str); 5] = [
     ("open-two", 2, "ird"),
 ];
 
+/// Reads by turns, before another file gets the second name and afterwards.
+fn assert_turns(rt: &HostRuntime, store: &mut DirStore<'_>) -> Result<(), Fail> {
+    for (name, at, want) in &TURNS {
+        assert_read_at(rt, store, name, *at, want)?;
+    }
+    fs::write(rt, "open-three", b"third")?;
+    fs::rename(rt, "open-three", "open-two")?;
+    for (name, at, want) in &REPLACED {
+        assert_read_at(rt, store, name, *at, want)?;
+    }
+    Ok(())
+}
+
 #[test]
 fn keeps_the_file_of_the_last_read_open(rt: HostRuntime) -> Result<(), Fail> {
     fs::write(&rt, "open-one", b"first")?;
     fs::write(&rt, "open-two", b"second")?;
-    let mut store = DirStore::new(&rt);
-    for (name, at, want) in &TURNS {
-        assert_read_at(&rt, &mut store, name, *at, want)?;
-    }
-    fs::write(&rt, "open-three", b"third")?;
-    fs::rename(&rt, "open-three", "open-two")?;
-    for (name, at, want) in &REPLACED {
-        assert_read_at(&rt, &mut store, name, *at, want)?;
-    }
-    Ok(())
+    assert_turns(&rt, &mut DirStore::new(&rt))
 }
 
 /// A file of zeros, of which the first reads are interrupted, so many, and which gives so many bytes then.
