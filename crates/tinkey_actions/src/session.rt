@@ -19,8 +19,8 @@ use std::alloc::Global;
 use std::marker::PhantomData;
 use tink_base::{Bytes, Entropy, Lookahead, Sink, Source, Store};
 use tinkey_plans::{Origin, Status};
-use tinkey_session::talk::talk;
 use tinkey_session::{TalkFault, WriteError, Writer};
+use tinkey_talk::talk::talk;
 use tinkey_words::{Format, KeysetFile, Master};
 
 /// session: answers the lines of the input over the keyset in the file of this name, and puts the

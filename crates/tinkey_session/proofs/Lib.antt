@@ -20,13 +20,10 @@ pub mod OpenLemmas
 pub mod CutLemmas
 pub mod DistinctLemmas
 pub mod EnabledLemmas
-pub mod EndLemmas
-pub mod FeedLemmas
 pub mod TalkLemmas
 pub mod TalkTurns
 pub mod TurnLemmas
 pub mod UnsavedLemmas
-pub mod SaveLemmas
 pub mod SavedLemmas
 pub mod SavedReplyLemmas
 pub mod SessionLemmas

@@ -6,7 +6,6 @@ use Rattle.std.specs.Prelude.{if◌then◌else◌}
 use Rattle.std.proofs.lemmas.Bool.{ltb-false, ltb-true}
 use Rattle.tink_spec.specs.Files.{Files, StoreState, MayAdd}
 use Rattle.tink_spec.specs.Outside.{Rose}
-use Rattle.tinkey_session.proofs.FeedLemmas.{rose_later}
 use Rattle.tinkey_session.specs.Saving.{Agrees, AsksFor, Asks, FileAsked, by_files, failed, files_after, made, there, why_taken}
 use Rattle.tinkey_session.specs.TalkLaws.{SavesAreTold}
 
@@ -36,6 +35,11 @@ asked_given a s t (failed why may rose given) = given
 pub asks_given : (asked : List FileAsked) (s t : StoreState) → Asks asked s t → t.given ≡ s.given
 asks_given [] s t same = ap (λ x. x.given) (sym same)
 asks_given (a ∷ asked) s t asks = asks_given asked asks.0 t asks.2 ∙ asked_given a s asks.0 asks.1
+
+-- a count that rose is above one before it
+pub rose_later : (a b c : ℕ) → a ≤ b → Rose b c → Rose a c
+rose_later a b c le (inl less) = inl (omega (arith, le, less))
+rose_later a b c le (inr last) = inr last
 
 -- a count that rose is above the one before, however it goes on
 pub rose_on : (a b c : ℕ) → a ≤ b → b ≤ c → Rose a b → Rose a c

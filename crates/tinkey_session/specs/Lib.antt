@@ -1,5 +1,4 @@
 pub mod Answered
-pub mod Feeding
 pub mod HeldLaws
 pub mod Keeping
 pub mod KeptKeys

@@ -8,7 +8,7 @@ mod reply;
 mod saving;
 mod session;
 mod short_text;
-pub mod talk;
+mod talk;
 
 pub use line::{Line, read_line};
 pub use reply::{LineRefusal, Refusal, Reply, line_refusal_text, refusal_text, reply_text};

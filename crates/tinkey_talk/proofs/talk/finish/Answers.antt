@@ -1,8 +1,8 @@
 use Rattle.std.proofs.Common.{arith, refl}
 use Rattle.std.proofs.lemmas.Bool.Decides.{nat_tests}
-use Rattle.tinkey_session.proofs.FeedLemmas.{cut_behind, fed_written, finished_line, finished_none, stopped_last}
-use Rattle.tinkey_session.specs.Feeding.{point}
-use Rattle.tinkey_session.proofs.talk.finish.Goals as goal
+use Rattle.tinkey_talk.proofs.FeedLemmas.{cut_behind, fed_written, finished_line, finished_none, stopped_last}
+use Rattle.tinkey_talk.specs.Feeding.{point}
+use Rattle.tinkey_talk.proofs.talk.finish.Goals as goal
 
 pub returns-then-is_empty-clause-finished : goal.returns-then-is_empty-clause-finished
 returns-then-is_empty-clause-finished g c = finished_none _ (point c.args.talk.session.keyset c.args.talk.line.items c.args.talk.count c.args.talk.unsaved) _ _ _ (grind (arith, nat_tests, c.is_empty.ensures, c.if-is_empty.true))

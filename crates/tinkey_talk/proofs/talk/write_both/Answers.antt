@@ -1,7 +1,7 @@
 use Rattle.std.proofs.Common.{refl}
 use Rattle.tink_spec.proofs.Moves.{took_more}
-use Rattle.tinkey_session.proofs.FeedLemmas.{held_cut, prefix_more}
-use Rattle.tinkey_session.proofs.talk.write_both.Goals as goal
+use Rattle.tinkey_talk.proofs.FeedLemmas.{held_cut, prefix_more}
+use Rattle.tinkey_talk.proofs.talk.write_both.Goals as goal
 
 pub returns-in-Err-clause-prefix : goal.returns-in-Err-clause-prefix
 returns-in-Err-clause-prefix g c = prefix_more _ _ _ _ c.in-Err.ensures.prefix

@@ -1,9 +1,9 @@
 use Rattle.std.proofs.Common.{◌≡◌, ◌≤◌, ◌+◌, ◌-◌, length, take, IfSome}
 use Rattle.managers.specs.contracts.table.ManagersKeyTable.TheImpl.{ghosts}
-use Rattle.tinkey_session.specs.Feeding.{Fed, outside, point, progress, taking}
 use Rattle.tinkey_session.specs.Keeping.{IsKept}
 use Rattle.tinkey_session.specs.Talking.{count_limit, going, saving}
-use Rattle.tinkey_session.proofs.talk.take_piece.Given as goal
+use Rattle.tinkey_talk.specs.Feeding.{Fed, outside, point, progress, taking}
+use Rattle.tinkey_talk.proofs.talk.take_piece.Given as goal
 
 abbrev pub invariant-loop-i : goal.invariant-loop-i
 invariant-loop-i g l = record {

@@ -2,8 +2,8 @@ use Rattle.std.proofs.Common.{take, arith, ap, refl, sym, ◌∙◌}
 use Rattle.std.specs.Prelude.{slice_index}
 use Rattle.std.proofs.lemmas.List.{length-take-le}
 use Rattle.managers.specs.contracts.table.ManagersKeyTable.TheImpl.{ghosts}
-use Rattle.tinkey_session.proofs.FeedLemmas.{all_settled, fed_first, fed_in_line, full_byte, stopped_first, stopped_in_line, stopped_many, stopped_newline}
-use Rattle.tinkey_session.proofs.talk.take_part.Goals as goal
+use Rattle.tinkey_talk.proofs.FeedLemmas.{all_settled, fed_first, fed_in_line, full_byte, stopped_first, stopped_in_line, stopped_many, stopped_newline}
+use Rattle.tinkey_talk.proofs.talk.take_part.Goals as goal
 
 pub returns-then-talk-ge-COUNT_LIMIT-clause-stopped : goal.returns-then-talk-ge-COUNT_LIMIT-clause-stopped
 returns-then-talk-ge-COUNT_LIMIT-clause-stopped g c =

@@ -13,7 +13,6 @@ use Rattle.tinkey_session.proofs.DrawLemmas.{saved-more}
 use Rattle.tinkey_session.proofs.Options.{clash}
 use Rattle.tinkey_session.proofs.TalkLemmas.{same_outcome}
 use Rattle.tinkey_session.specs.Answered.{IsAnswered, IsUnanswered, Serves}
-use Rattle.tinkey_session.specs.Feeding.{IsReplied, IsUndrawn, IsUnreplied, given}
 use Rattle.tinkey_session.specs.Lines.{Line, Seal, Dseal, Open, Dopen, Reseal, Dreseal, Tag, Verify, Derive, Edit, Save, Outcome, Bad, line_of}
 use Rattle.tinkey_session.specs.Saving.{Agrees, FileAsked, failed, made, there, Form, StoreAnswers, file_asked, files_of, iv_drawn, makes, name_saved, outcome_of, resolved, unless_unsaved, why_of, written_by}
 use Rattle.tinkey_session.specs.Serving.{answered, drawn_size, saved_reply, serve}
@@ -26,6 +25,7 @@ use Rattle.tinkey_session.specs.declared.reply.Reply.{Reply}
 use Rattle.tinkey_session.specs.declared.reply.Reply.TheVariants.{Done, Refuses}
 use Rattle.tinkey_session.specs.declared.session.LineFault.{LineFault}
 use Rattle.tinkey_session.specs.declared.session.LineFault.TheVariants as line_faults
+use Rattle.tinkey_talk.specs.Feeding.{IsReplied, IsUndrawn, IsUnreplied, given}
 
 -- ---- a line that saves nothing
 

@@ -1,6 +1,7 @@
 use Rattle.std.proofs.Common.{◌∙◌, refl}
-use Rattle.tinkey_session.proofs.FeedLemmas.{fed_line, held_cut, held_more, held_with, rose_later, torn_line}
-use Rattle.tinkey_session.proofs.talk.take_line.Goals as goal
+use Rattle.tinkey_session.proofs.StoreLemmas.{rose_later}
+use Rattle.tinkey_talk.proofs.FeedLemmas.{fed_line, held_cut, held_more, held_with, torn_line}
+use Rattle.tinkey_talk.proofs.talk.take_line.Goals as goal
 
 pub returns-in-Ok-tell-clause-fed : goal.returns-in-Ok-tell-clause-fed
 returns-in-Ok-tell-clause-fed g c = fed_line _ _ _ _ _ _ _ _ c.deref.ensures.value c.deref-in-Ok.ensures.value c.clear.ensures.items refl c.in-Ok.ensures.replied

@@ -1,9 +1,9 @@
 use Rattle.std.proofs.Common.{arith, length, refl, sym}
 use Rattle.std.proofs.lemmas.Result.{IfErr-weaker, IfOk-weaker}
-use Rattle.tinkey_session.proofs.SaveLemmas.{plain_replied, plain_unreplied, save_replied, save_unreplied}
 use Rattle.tinkey_session.proofs.WithinLemmas.{within_limit}
 use Rattle.tinkey_session.specs.Reading.{seen_line}
-use Rattle.tinkey_session.proofs.talk.answer_line.Goals as goal
+use Rattle.tinkey_talk.proofs.SaveLemmas.{plain_replied, plain_unreplied, save_replied, save_unreplied}
+use Rattle.tinkey_talk.proofs.talk.answer_line.Goals as goal
 
 pub serve-requires-clause-within : goal.serve-requires-clause-within
 serve-requires-clause-within g c =

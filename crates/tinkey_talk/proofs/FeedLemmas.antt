@@ -1,5 +1,5 @@
 -- One piece of a session's input after another.
-use Rattle.std.proofs.Common.{◌≡◌, ◌≢◌, ◌∙◌, inl, inr, refl, sym, ap, subst, ℕ, suc, ◌+◌, ◌-◌, ◌<◌, ◌≤◌, take, drop, Bool, true, false, List, [], ◌∷◌, ◌++◌, length, Option, Some, None, arith, append_assoc, append-nil, length-append}
+use Rattle.std.proofs.Common.{◌≡◌, ◌≢◌, ◌∙◌, refl, sym, ap, subst, ℕ, suc, ◌+◌, ◌-◌, ◌<◌, ◌≤◌, take, drop, Bool, true, false, List, [], ◌∷◌, ◌++◌, length, Option, Some, None, arith, append_assoc, append-nil, length-append}
 use Rattle.std.specs.Prelude.{◌==◌, nat_le, slice_index}
 use Rattle.std.proofs.lemmas.List.{get_or-take, length-take-le, take_more, take-append-drop}
 use Rattle.std.proofs.lemmas.Bool.{eq-eqb, le-leb, lt-leb}
@@ -8,15 +8,16 @@ use Rattle.managers.specs.Table.{Table}
 use Rattle.tink_spec.proofs.Moves.{drew_more, drew_nothing, lost_later, took_more, took_nothing}
 use Rattle.tink_spec.specs.Files.{StoreState}
 use Rattle.tink_spec.specs.Outside.{SinkState, EntropyState, Drew, Rose, Stood, Took, TookPrefix}
+use Rattle.tinkey_session.proofs.StoreLemmas.{rose_later}
 use Rattle.tinkey_session.proofs.TalkLemmas.{byte_by, over-append, over-more, over-stopped, saving_settled, with_more}
 use Rattle.tinkey_session.specs.Answered.{DrewSome}
-use Rattle.tinkey_session.specs.Feeding.{Begins, Ended, Fed, Finished, InLine, InPiece, IsReplied, IsUndrawn, Outside, RepliesBy, Stands, Start, Stopped, HoldsBack, IsInLine, all_told, cut_off, dry, ending, full, given, outside, Point, from, past, taking, torn}
 use Rattle.tinkey_session.specs.Saving.{Agrees, FileAsked, Asks, Form, StoreAnswers}
 use Rattle.tinkey_session.specs.Talking.{AreSettled, Given, Limit, long_line, many_lines, Replies, Stop, goes, wants, passes, Talk, replied, line_ended, byte_taken, count_limit, line_limit, on_go, over, last_line, going, saving}
 use Rattle.tinkey_session.specs.Talks.{limit_fault}
 use Rattle.tinkey_session.specs.Texts.{reply_text}
 use Rattle.tinkey_session.specs.declared.talk.TalkFault.{TalkFault}
 use Rattle.tinkey_session.specs.declared.talk.TalkFault.TheVariants as faults
+use Rattle.tinkey_talk.specs.Feeding.{Begins, Ended, Fed, Finished, InLine, InPiece, IsReplied, IsUndrawn, Outside, RepliesBy, Stands, Start, Stopped, HoldsBack, IsInLine, all_told, cut_off, dry, ending, full, given, outside, Point, from, past, taking, torn}
 
 -- ---- stops
 
@@ -25,10 +26,6 @@ wants≢goes e = cc
 
 pub passes≢goes : (limit : Limit) → passes limit ≢ goes
 passes≢goes limit e = cc
-
-pub rose_later : (a b c : ℕ) → a ≤ b → Rose b c → Rose a c
-rose_later a b c le (inl less) = inl (omega (arith, le, less))
-rose_later a b c le (inr last) = inr last
 
 -- ---- replies that are held back
 

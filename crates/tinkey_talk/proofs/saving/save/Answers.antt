@@ -1,6 +1,6 @@
 use Rattle.std.proofs.Common.{Err, ap}
-use Rattle.tinkey_session.proofs.SaveLemmas.{exists_saved, failed_saved, made_saved}
-use Rattle.tinkey_session.proofs.saving.save.Goals as goal
+use Rattle.tinkey_talk.proofs.SaveLemmas.{exists_saved, failed_saved, made_saved}
+use Rattle.tinkey_talk.proofs.saving.save.Goals as goal
 
 -- it isn't written
 

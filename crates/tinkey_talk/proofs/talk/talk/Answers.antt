@@ -1,10 +1,10 @@
 use Rattle.std.proofs.Common.{◌∙◌, ap, refl, take, arith}
 use Rattle.managers.specs.contracts.table.ManagersKeyTable.TheImpl.{ghosts}
 use Rattle.tink_spec.proofs.Moves.{goes_on_more, nothing_goes_on, read_goes_on}
-use Rattle.tinkey_session.proofs.EndLemmas.{ends_finished, ends_stopped, ends_unread, if_none, talking_more, talking_none}
-use Rattle.tinkey_session.proofs.FeedLemmas.{all_settled}
 use Rattle.tinkey_session.specs.Talking.{saving}
-use Rattle.tinkey_session.proofs.talk.talk.Goals as goal
+use Rattle.tinkey_talk.proofs.EndLemmas.{ends_finished, ends_stopped, ends_unread, if_none, talking_more, talking_none}
+use Rattle.tinkey_talk.proofs.FeedLemmas.{all_settled}
+use Rattle.tinkey_talk.proofs.talk.talk.Goals as goal
 
 pub loop-n-init : goal.loop-n-init
 loop-n-init g c = record {

@@ -1,12 +1,12 @@
 use Rattle.std.proofs.Common.{◌≡◌, ◌<◌, ◌≤◌, ◌-◌, [], length, IfSome}
 use Rattle.tink_spec.specs.Outside.{GoesOn}
 use Rattle.managers.specs.contracts.table.ManagersKeyTable.TheImpl.{ghosts}
-use Rattle.tinkey_session.proofs.EndLemmas.{Talking}
-use Rattle.tinkey_session.specs.Feeding.{point, progress}
 use Rattle.tinkey_session.specs.Keeping.{IsKept}
 use Rattle.tinkey_session.specs.Talking.{count_limit, saving}
 use Rattle.tinkey_session.specs.Talks.{sides}
-use Rattle.tinkey_session.proofs.talk.talk.Given as goal
+use Rattle.tinkey_talk.proofs.EndLemmas.{Talking}
+use Rattle.tinkey_talk.specs.Feeding.{point, progress}
+use Rattle.tinkey_talk.proofs.talk.talk.Given as goal
 
 abbrev pub invariant-loop-n : goal.invariant-loop-n
 invariant-loop-n g l = record {

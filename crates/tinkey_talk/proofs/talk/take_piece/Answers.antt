@@ -2,9 +2,9 @@ use Rattle.std.proofs.Common.{◌≡◌, ◌∙◌, refl, sym, ap, ◌-◌, ◌+
 use Rattle.std.proofs.Math.Seq.{take-add}
 use Rattle.std.proofs.lemmas.List.{length-drop, take_all, take_rest, take-append-drop}
 use Rattle.managers.specs.contracts.table.ManagersKeyTable.TheImpl.{ghosts}
-use Rattle.tinkey_session.proofs.FeedLemmas.{all_settled, cut_behind, fed_all, fed_none, fed_piece, fed_written, stopped_piece}
 use Rattle.tinkey_session.specs.Talking.{saving}
-use Rattle.tinkey_session.proofs.talk.take_piece.Goals as goal
+use Rattle.tinkey_talk.proofs.FeedLemmas.{all_settled, cut_behind, fed_all, fed_none, fed_piece, fed_written, stopped_piece}
+use Rattle.tinkey_talk.proofs.talk.take_piece.Goals as goal
 
 pub loop-i-init : goal.loop-i-init
 loop-i-init g c = record {

@@ -1,9 +1,9 @@
 use Rattle.std.proofs.Common.{◌∙◌, Err, ap, refl, subst, sym}
-use Rattle.tinkey_session.proofs.FeedLemmas.{dry_line, ended_line, full_line, replied_as, undrawn_as}
 use Rattle.tinkey_session.specs.Answered.{DrewSome}
-use Rattle.tinkey_session.specs.Feeding.{cut_off, point}
 use Rattle.tinkey_session.specs.Talking.{saving}
-use Rattle.tinkey_session.proofs.talk.reply_to.Goals as goal
+use Rattle.tinkey_talk.proofs.FeedLemmas.{dry_line, ended_line, full_line, replied_as, undrawn_as}
+use Rattle.tinkey_talk.specs.Feeding.{cut_off, point}
+use Rattle.tinkey_talk.proofs.talk.reply_to.Goals as goal
 
 pub returns-in-Err-NoMemory-clause-stopped : goal.returns-in-Err-NoMemory-clause-stopped
 returns-in-Err-NoMemory-clause-stopped g c = λ count. ended_line _ (point c.args.session.now.keyset c.args.line.now count c.args.unsaved) _ _ _ _ _ _ _ _ c.in-Err-NoMemory.ensures.unused c.in-Err-NoMemory.ensures.still c.end.ensures

@@ -4,13 +4,14 @@ use Rattle.keyset_model.specs.Keyset.{Keys}
 use Rattle.tink_spec.proofs.Moves.{drew_more, drew_nothing, gave_more, gave_nothing, lost_later, took_more}
 use Rattle.tink_spec.specs.Files.{StoreState}
 use Rattle.tink_spec.specs.Outside.{SourceState, Drew, Gave, IsAtEnd, Rose, Stood, Took, TookPrefix}
-use Rattle.tinkey_session.proofs.FeedLemmas.{AllSettled, IsStart, agrees_first, agrees_second, asks_more, fed_more, fed_over, held_cut, held_nothing, held_took, held_with, prefix_more, rose_later, stopped_more}
-use Rattle.tinkey_session.specs.Feeding.{Fed, Finished, InLine, InPiece, Outside, RepliesBy, Start, Stopped, dry, ending, full, Point, from, outside, past, taking, torn}
+use Rattle.tinkey_session.proofs.StoreLemmas.{rose_later}
 use Rattle.tinkey_session.specs.Saving.{FileAsked, StoreAnswers}
 use Rattle.tinkey_session.specs.Talking.{AreSettled, Given, Limit, Replies, goes, passes, Talk, replied, last_line, finish, going, over, talk_by}
 use Rattle.tinkey_session.specs.Talks.{Sides, TalksWith, passed, starved, talked, undrawn, unread, unwritten}
 use Rattle.tinkey_session.specs.declared.talk.TalkFault.{TalkFault}
 use Rattle.tinkey_session.specs.declared.talk.TalkFault.TheVariants as faults
+use Rattle.tinkey_talk.proofs.FeedLemmas.{AllSettled, IsStart, agrees_first, agrees_second, asks_more, fed_more, fed_over, held_cut, held_nothing, held_took, held_with, prefix_more, stopped_more}
+use Rattle.tinkey_talk.specs.Feeding.{Fed, Finished, InLine, InPiece, Outside, RepliesBy, Start, Stopped, dry, ending, full, Point, from, outside, past, taking, torn}
 
 -- a session from its beginning
 abbrev pub begun : Keys → Start
